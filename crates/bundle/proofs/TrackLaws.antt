@@ -19,7 +19,7 @@ use Rattle.bundle.specs.declared.tracks.Entry.{Entry}
 use Rattle.bundle.specs.Faults.{Reads, next, placeOf}
 use Rattle.bundle.specs.Numbers.{numberAt, encode, Bytes}
 use Rattle.bundle.specs.Records.{shape, Seen, view, recordAt, recordBytes, Whole, Fits}
-use Rattle.bundle.specs.Tracks.{limit, Timed, timed, viewEntry, entryAt, prepend, recordSpan, trackIn, trackOf, stampAfter, entryBytes, trackBytes, Wholes, FitsAfter, AllFit, Taken, Record-read-back, Record-one-packing, Track-read-back, Track-packs-back, Legal-track-has-one-list}
+use Rattle.bundle.specs.Tracks.{limit, Timed, timed, viewEntry, entryAt, prepend, recordSpan, trackIn, trackOf, stampAfter, entryBytes, trackBytes, Wholes, FitsAfter, AllFit, Taken, Record-read-back, Record-one-packing, Track-read-back, Legal-track-has-one-list}
 use Rattle.bundle.proofs.NumberLaws.{encode-some}
 use Rattle.bundle.proofs.RecordLaws.{number-then, number-ok, next-ok, given, bytes-after, record-back, record-one, whole-view}
 
@@ -186,7 +186,8 @@ pub track-read-back : Track-read-back
 unfolding trackOf
 track-read-back end track es f = back-in end track _ 0 0 (map viewEntry es) (wholes-view 0 es f) (omega arith)
 
-pub track-packs-back : Track-packs-back
+-- what is read of a track of at most 60,000 bytes may be packed, and packs to the track
+track-packs-back : (end track : ℕ) (bs : List ℕ) (es : List Timed) → Bytes bs → length bs ≤ 60000 → trackOf end track bs ≡ Ok es → AllFit 0 es × (trackBytes es ≡ bs)
 unfolding trackOf
 track-packs-back end track bs es by h is = let p = one-in end track (length bs) 0 0 bs es by (omega arith) h is in (p .0, sym (p .1))
 

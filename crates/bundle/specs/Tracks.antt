@@ -119,10 +119,6 @@ Record-one-packing = (s : Span) (last : ℕ) (bs : List ℕ) (e : Timed) (rest :
 abbrev pub Track-read-back : Type 0
 Track-read-back = (end track : ℕ) (es : List Entry) → AllFit 0 (map viewEntry es) → trackOf end track (packedTrack es) ≡ Ok (map viewEntry es)
 
--- what is read of a track of at most 60,000 bytes may be packed, and packs to the track
-abbrev pub Track-packs-back : Type 0
-Track-packs-back = (end track : ℕ) (bs : List ℕ) (es : List Timed) → Bytes bs → length bs ≤ 60000 → trackOf end track bs ≡ Ok es → AllFit 0 es × (trackBytes es ≡ bs)
-
 -- a legal track, one with no fault and at most 60,000 bytes, packs from just one list of records
 abbrev pub Legal-track-has-one-list : Type 0
 Legal-track-has-one-list = (end track : ℕ) (bs : List ℕ) (read : List Timed) → Bytes bs → length bs ≤ 60000 → trackOf end track bs ≡ Ok read →

@@ -1,7 +1,7 @@
 // What holds of packing and reading, for all numbers, records, tracks and bundles. Each function
 // stands for the theorem that is its contract, and does nothing else.
 ghost use Rattle.bundle.specs.Numbers.{Number-read-back, Number-one-packing, Number-examples};
-ghost use Rattle.bundle.specs.Tracks.{Record-read-back, Record-one-packing, Track-read-back, Track-packs-back, Legal-track-has-one-list};
+ghost use Rattle.bundle.specs.Tracks.{Record-read-back, Record-one-packing, Track-read-back, Legal-track-has-one-list};
 ghost use Rattle.bundle.specs.Bundles.{Packed-bundle-is-accepted};
 
 // A number below 2^42 is read back from its packing, whatever follows.
@@ -47,14 +47,8 @@ pub fn track_is_read_back() -> u8
     0
 }
 
-// What is read of a track may be packed, and packs to the same bytes.
-pub fn track_packs_back() -> u8
-    ensures { λ _. ⌜ Track-packs-back ⌝ }
-{
-    0
-}
-
-// A legal track packs from just one list of records.
+// What is read of a legal track may be packed, packs to the same bytes, and is the only list of
+// records that does.
 pub fn legal_track_has_one_list() -> u8
     ensures { λ _. ⌜ Legal-track-has-one-list ⌝ }
 {

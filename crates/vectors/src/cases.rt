@@ -16,7 +16,7 @@ use std::fmt::Write;
 use std::fs;
 
 // Whether the case of a line holds.
-pub fn holds(rt: &LibcRuntime, line: &str) -> Result<bool, AnyError> {
+pub(crate) fn holds(rt: &LibcRuntime, line: &str) -> Result<bool, AnyError> {
     let (way, rest) = line.split_once(' ')
         .ok_or("a case is a word and what it is about")?;
     match way {
