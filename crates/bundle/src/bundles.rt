@@ -65,12 +65,12 @@ pub struct Bundle<'a> {
 
 // Takes a header number off `bytes`, which has to lie between `low` and `high`.
 fn read_value<'a>(
-    span: &Span,
+    span: Span,
     low: u64,
     high: u64,
     bytes: &'a [u8],
 ) -> Result<(u64, &'a [u8]), Fault>
-    ensures is { MatchResult result (λ v. value_at span.now low high bytes.now ≡ Ok (v.0, v.1.now)) (λ e. value_at span.now low high bytes.now ≡ Err e) }
+    ensures is { MatchResult result (λ v. value_at span low high bytes.now ≡ Ok (v.0, v.1.now)) (λ e. value_at span low high bytes.now ≡ Err e) }
     ensures bound { IfOk result (λ v. v.0 ≤ high) }
 {
     let (number, rest) = number::read(span, bytes)?;
@@ -82,12 +82,12 @@ fn read_value<'a>(
 
 // Takes the lengths of `count` tracks off `bytes`.
 fn read_lengths<'a>(
-    span: &Span,
+    span: Span,
     count: usize,
     bytes: &'a [u8],
 ) -> Result<([u64; 8], &'a [u8]), Fault>
     requires { count ≤ 8 }
-    ensures is { MatchResult result (λ v. numbers_at span.now count bytes.now ≡ Ok (take count v.0, v.1.now)) (λ e. numbers_at span.now count bytes.now ≡ Err e) }
+    ensures is { MatchResult result (λ v. numbers_at span count bytes.now ≡ Ok (take count v.0, v.1.now)) (λ e. numbers_at span count bytes.now ≡ Err e) }
     ensures small { IfOk result (λ v. AllByRecursion (λ n. n < 2 ^ 42) v.0) }
 {
     let mut lengths = [0; 8];
@@ -150,14 +150,14 @@ fn cut<'a>(
 
 // Takes the lengths of the tracks off `bytes`, and cuts the tracks out of what follows.
 fn read_tracks<'a>(
-    span: &Span,
+    span: Span,
     platform: u64,
     clock: u64,
     count: u64,
     bytes: &'a [u8],
 ) -> Result<Bundle<'a>, Fault>
     requires { count ≤ 8 }
-    ensures { MatchResult result (λ b. tracks_at span.now platform clock count bytes.now ≡ Ok (contents b)) (λ e. tracks_at span.now platform clock count bytes.now ≡ Err e) }
+    ensures { MatchResult result (λ b. tracks_at span platform clock count bytes.now ≡ Ok (contents b)) (λ e. tracks_at span platform clock count bytes.now ≡ Err e) }
 {
     let (lengths, body) = read_lengths(span, count as usize, bytes)?;
     let lengths = &lengths[0..count as usize];
@@ -175,8 +175,8 @@ fn read_tracks<'a>(
 }
 
 // Takes a header off `bytes`, and cuts the tracks out of what follows.
-fn read_header<'a>(span: &Span, bytes: &'a [u8]) -> Result<Bundle<'a>, Fault>
-    ensures { MatchResult result (λ b. header_at span.now bytes.now ≡ Ok (contents b)) (λ e. header_at span.now bytes.now ≡ Err e) }
+fn read_header<'a>(span: Span, bytes: &'a [u8]) -> Result<Bundle<'a>, Fault>
+    ensures { MatchResult result (λ b. header_at span bytes.now ≡ Ok (contents b)) (λ e. header_at span bytes.now ≡ Err e) }
 {
     let (_, rest) = read_value(span, 1, 1, bytes)?;
     let (platform, rest) = read_value(span, 1, 2, rest)?;
@@ -202,7 +202,7 @@ impl<'a> Bundle<'a> {
             end: bytes.len(),
             part: Part::Header,
         };
-        let bundle = read_header(&span, bytes)?;
+        let bundle = read_header(span, bytes)?;
         bundle.check_tracks()?;
         Ok(bundle)
     }

@@ -1,5 +1,7 @@
 // Why a bundle is refused, and where: the one fault enum that all layers carry by `?`. And why
 // something is not packed.
+#![tactic(auto)]
+
 ghost use Rattle.std.specs.Prelude.{◌≡◌, ◌+◌, ◌^◌, ◌<◌, length};
 ghost use Rattle.fault.specs.Faults.{place_of, part_numbers, numbers_of, refusal_numbers};
 
@@ -58,8 +60,8 @@ pub struct Span {
 
 impl Span {
     // Where `rest` begins, which is what is still unread of this stretch.
-    pub fn place(&self, rest: &[u8]) -> Place
-        ensures is { result ≡ place_of self.now rest.now }
+    pub fn place(self, rest: &[u8]) -> Place
+        ensures is { result ≡ place_of self rest.now }
         ensures fits { result.offset + length rest.now < 2 ^ 64 }
     {
         Place {

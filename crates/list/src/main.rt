@@ -1,4 +1,6 @@
 // Lists the bundle on standard input: its one fault, or its records.
+#![tactic(auto)]
+
 use std::io;
 use std::io::{Read, Write};
 

@@ -1,4 +1,6 @@
 // The text that `list` prints: a bundle's one fault, or its records and what was counted.
+#![tactic(auto)]
+
 ghost use Rattle.std.specs.Prelude.{◌≡◌, ◌<◌, ◌++◌, IfOk, Err, OnOk};
 ghost use Rattle.std.specs.List.{flat_map};
 ghost use Rattle.track.specs.Records.{view};
@@ -186,7 +188,7 @@ fn push_track(out: &mut Vec<u8>, track: &Track) -> Result<(), Stop>
     let mut record = 0;
     while !left.is_empty() {
         let span = track.span(record);
-        let (entry, rest) = tracks::read(&span, stamp, left)?;
+        let (entry, rest) = tracks::read(span, stamp, left)?;
         stamp += entry.difference;
         push_line(out, stamp, track.number, &entry.record)?;
         left = rest;

@@ -1,5 +1,7 @@
 // Numbers below 2^42 as groups of seven bits, low group first, bit 7 set in all but the last; at
 // most six groups, in the shortest form.
+#![tactic(auto)]
+
 ghost use Rattle.std.specs.Prelude.{◌≡◌, ◌+◌, ◌-◌, ◌*◌, ◌/◌, ◌%◌, ◌^◌, ◌<◌, ◌≤◌, ◌++◌, length, drop, IfOk, Ok, Err, MatchResult};
 ghost use Rattle.number.specs.Numbers.{decode, flawed, number_at, encode, NumberReadBack, NumberOnePacking, NumberExamples};
 ghost use Rattle.number.specs.Packed.{Packed, splice};
@@ -67,8 +69,8 @@ fn read_groups(bytes: &[u8]) -> Result<(u64, &[u8]), Flaw>
 }
 
 // Takes a number off `bytes`, which is what is left of `span`.
-pub fn read<'a>(span: &Span, bytes: &'a [u8]) -> Result<(u64, &'a [u8]), Fault>
-    ensures is { MatchResult result (λ v. number_at span.now bytes.now ≡ Ok (v.0, v.1.now)) (λ e. number_at span.now bytes.now ≡ Err e) }
+pub fn read<'a>(span: Span, bytes: &'a [u8]) -> Result<(u64, &'a [u8]), Fault>
+    ensures is { MatchResult result (λ v. number_at span bytes.now ≡ Ok (v.0, v.1.now)) (λ e. number_at span bytes.now ≡ Err e) }
     ensures bound { IfOk result (λ v. v.0 < 2 ^ 42) }
     ensures whole { IfOk result (λ v. bytes.now ≡ encode v.0 ++ v.1.now) }
     ensures shorter { IfOk result (λ v. length v.1.now < length bytes.now) }

@@ -1,4 +1,6 @@
 // Decimal numbers as text.
+#![tactic(auto)]
+
 ghost use Rattle.std.specs.Prelude.{◌≡◌, ◌+◌, ◌<◌, ◌≤◌, ◌++◌, length, take, is_ok, if◌then◌else◌, decimal};
 
 use std::alloc::AllocError;

@@ -3,6 +3,8 @@
 // The layers, each knowing only those below it: records (a kind and its fields), tracks (records
 // after one another, with their stamps) and packing (records and tracks back to bytes). `theorems`
 // says what holds of packing and reading together.
+#![tactic(auto)]
+
 pub mod packing;
 pub mod records;
 pub mod theorems;

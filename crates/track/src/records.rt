@@ -171,8 +171,8 @@ impl<'a> Record<'a> {
     }
 }
 
-fn read_text<'a>(span: &Span, len: u64, bytes: &'a [u8]) -> Result<(&'a [u8], &'a [u8]), Fault>
-    ensures is { MatchResult result (λ v. text_at span.now len bytes.now ≡ Ok (v.0.now, v.1.now)) (λ e. text_at span.now len bytes.now ≡ Err e) }
+fn read_text<'a>(span: Span, len: u64, bytes: &'a [u8]) -> Result<(&'a [u8], &'a [u8]), Fault>
+    ensures is { MatchResult result (λ v. text_at span len bytes.now ≡ Ok (v.0.now, v.1.now)) (λ e. text_at span len bytes.now ≡ Err e) }
     ensures long { IfOk result (λ v. length v.0.now ≡ len) }
 {
     if (bytes.len() as u64) < len {
@@ -181,8 +181,8 @@ fn read_text<'a>(span: &Span, len: u64, bytes: &'a [u8]) -> Result<(&'a [u8], &'
     Ok(bytes.split_at(len as usize))
 }
 
-fn read_enrol<'a>(span: &Span, bytes: &'a [u8]) -> Result<(Record<'a>, &'a [u8]), Fault>
-    ensures { MatchResult result (λ v. fields_at span.now bytes.now Kind.Enrol ≡ Ok (view v.0, v.1.now)) (λ e. fields_at span.now bytes.now Kind.Enrol ≡ Err e) }
+fn read_enrol<'a>(span: Span, bytes: &'a [u8]) -> Result<(Record<'a>, &'a [u8]), Fault>
+    ensures { MatchResult result (λ v. fields_at span bytes.now Kind.Enrol ≡ Ok (view v.0, v.1.now)) (λ e. fields_at span bytes.now Kind.Enrol ≡ Err e) }
 {
     let (number, rest) = number::read(span, bytes)?;
     let (wake_hold, rest) = number::read(span, rest)?;
@@ -199,13 +199,9 @@ fn read_enrol<'a>(span: &Span, bytes: &'a [u8]) -> Result<(Record<'a>, &'a [u8])
 }
 
 // The fields of a known kind.
-fn read_fields<'a>(
-    span: &Span,
-    bytes: &'a [u8],
-    kind: Kind,
-) -> Result<(Record<'a>, &'a [u8]), Fault>
+fn read_fields<'a>(span: Span, bytes: &'a [u8], kind: Kind) -> Result<(Record<'a>, &'a [u8]), Fault>
     requires { (shape kind).known ≡ true }
-    ensures { MatchResult result (λ v. fields_at span.now bytes.now kind ≡ Ok (view v.0, v.1.now)) (λ e. fields_at span.now bytes.now kind ≡ Err e) }
+    ensures { MatchResult result (λ v. fields_at span bytes.now kind ≡ Ok (view v.0, v.1.now)) (λ e. fields_at span bytes.now kind ≡ Err e) }
 {
     match kind {
         Kind::Enrol => read_enrol(span, bytes),
@@ -244,8 +240,8 @@ fn read_fields<'a>(
 }
 
 // Takes a kind and its fields off `bytes`, which is what is left of `span`.
-pub(crate) fn read<'a>(span: &Span, bytes: &'a [u8]) -> Result<(Record<'a>, &'a [u8]), Fault>
-    ensures { MatchResult result (λ v. record_at span.now bytes.now ≡ Ok (view v.0, v.1.now)) (λ e. record_at span.now bytes.now ≡ Err e) }
+pub(crate) fn read<'a>(span: Span, bytes: &'a [u8]) -> Result<(Record<'a>, &'a [u8]), Fault>
+    ensures { MatchResult result (λ v. record_at span bytes.now ≡ Ok (view v.0, v.1.now)) (λ e. record_at span bytes.now ≡ Err e) }
 {
     let (number, rest) = number::read(span, bytes)?;
     match Kind::of(number) {

@@ -17,8 +17,8 @@ pub struct Entry<'a> {
 }
 
 // Takes an entry off `bytes`, which is what is left of `span`, after the stamp `last`.
-pub fn read<'a>(span: &Span, last: u64, bytes: &'a [u8]) -> Result<(Entry<'a>, &'a [u8]), Fault>
-    ensures is { MatchResult result (λ v. entry_at span.now last bytes.now ≡ Ok (view_entry v.0, v.1.now)) (λ e. entry_at span.now last bytes.now ≡ Err e) }
+pub fn read<'a>(span: Span, last: u64, bytes: &'a [u8]) -> Result<(Entry<'a>, &'a [u8]), Fault>
+    ensures is { MatchResult result (λ v. entry_at span last bytes.now ≡ Ok (view_entry v.0, v.1.now)) (λ e. entry_at span last bytes.now ≡ Err e) }
     ensures taken { IfOk result (λ v. Taken last bytes.now (view_entry v.0) v.1.now) }
 {
     let (difference, rest) = number::read(span, bytes)?;
@@ -47,7 +47,7 @@ impl Track<'_> {
         let mut record = 0;
         while !left.is_empty() {
             let span = self.span(record);
-            let (entry, rest) = read(&span, last, left)?;
+            let (entry, rest) = read(span, last, left)?;
             last += entry.difference;
             left = rest;
             record += 1;

@@ -45,7 +45,7 @@ fn entries<'a>(heap: Global, track: &Track<'a>) -> anyhow::Result<Vec<Entry<'a>>
     let mut last = 0;
     while !left.is_empty() {
         let span = track.span(all.len());
-        let Ok((entry, rest)) = tracks::read(&span, last, left) else {
+        let Ok((entry, rest)) = tracks::read(span, last, left) else {
             return Err(anyhow!("a track that was checked has a fault"));
         };
         last += entry.difference;
@@ -149,7 +149,7 @@ fn packs(rt: &HostRuntime, rest: &str) -> anyhow::Result<bool> {
         end: len,
         part: Part::Header,
     };
-    let Ok((again, left)) = number::read(&span, &out[0..len]) else {
+    let Ok((again, left)) = number::read(span, &out[0..len]) else {
         return Ok(false);
     };
     Ok(shown.as_str() == wanted && again == number && left.is_empty() && out[7] == 0xEE)

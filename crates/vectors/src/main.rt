@@ -10,6 +10,8 @@
 //
 // A bundle with no fault is also packed again, track by track, to the bytes that it came from.
 
+#![tactic(auto)]
+
 mod cases;
 
 fn run(rt: &HostRuntime) -> anyhow::Result<()> {

@@ -7,8 +7,8 @@ use Rattle.listing.proofs.push_count.Goals as goal
 pub returns : goal.returns
 returns c =
     five (vec_items c.args.out.now) (codes "track") (field_text c.args.track) (codes " records") (field_text c.args.records) (10 ∷ [])
-    (pushed (codes "track") refl c.in-ok-extend-from-slice.was c.extend-from-slice.ensures.items)
-    c.in-ok-push-field.ensures
-    (pushed (codes " records") refl c.in-ok-extend-from-slice-2.was c.extend-from-slice-2.ensures.items)
-    c.in-ok-push-field-2.ensures
-    (pushed (10 ∷ []) refl c.in-ok-extend-from-slice-3.was c.extend-from-slice-3.ensures.items)
+    (pushed (codes "track") refl c.in_ok-extend_from_slice.was c.extend_from_slice.ensures.items)
+    c.in_ok-push_field.ensures
+    (pushed (codes " records") refl c.in_ok-extend_from_slice-2.was c.extend_from_slice-2.ensures.items)
+    c.in_ok-push_field-2.ensures
+    (pushed (10 ∷ []) refl c.in_ok-extend_from_slice-3.was c.extend_from_slice-3.ensures.items)

@@ -8,7 +8,7 @@ use Rattle.listing.proofs.push_fault.Goals as goal
 pub returns : goal.returns
 returns c =
     three (vec_items c.args.out.now) (codes "fault") (flat_map field_text (fault_fields c.numbers-numbers.result)) (10 ∷ [])
-    (pushed (codes "fault") refl c.in-ok-extend-from-slice.was c.extend-from-slice.ensures.items)
-    c.in-ok-push-fields.ensures
-    (pushed (10 ∷ []) refl c.in-ok-extend-from-slice-2.was c.extend-from-slice-2.ensures.items)
+    (pushed (codes "fault") refl c.in_ok-extend_from_slice.was c.extend_from_slice.ensures.items)
+    c.in_ok-push_fields.ensures
+    (pushed (10 ∷ []) refl c.in_ok-extend_from_slice-2.was c.extend_from_slice-2.ensures.items)
     ∙ ap (λ f. vec_items c.args.out.now ++ (codes "fault" ++ (flat_map field_text (fault_fields f) ++ 10 ∷ []))) c.numbers-numbers.ensures

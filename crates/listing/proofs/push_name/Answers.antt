@@ -7,12 +7,12 @@ use Rattle.listing.proofs.Pushes.{joined_step, three}
 use Rattle.listing.proofs.push_name.Goals as goal
 
 pub loop-byte-preserved : goal.loop-byte-preserved
-loop-byte-preserved c = joined_step shown c.args.name.now c.loop-byte.byte-index 0 _ _ _ c.loop-byte-test.true c.loop-byte.invariant c.in-ok-push-shown.ensures
+loop-byte-preserved c = joined_step shown c.args.name.now c.loop-byte.byte-index 0 _ _ _ c.loop-byte-test.true c.loop-byte.invariant c.in_ok-push_shown.ensures
 
 pub returns : goal.returns
 returns c =
     let all = take_all c.loop-byte.byte-index c.args.name.now (omega arith) in
     three (vec_items c.args.out.now) (32 ∷ 34 ∷ []) (flat_map shown c.args.name.now) (34 ∷ [])
-    (pushed (32 ∷ 34 ∷ []) refl c.in-ok-extend-from-slice.was c.extend-from-slice.ensures.items)
-    (c.loop-byte.invariant ∙ ap (λ l. vec_items c.extend-from-slice.new.self ++ flat_map shown l) all)
-    (pushed (34 ∷ []) refl c.in-ok-extend-from-slice-2.was c.extend-from-slice-2.ensures.items)
+    (pushed (32 ∷ 34 ∷ []) refl c.in_ok-extend_from_slice.was c.extend_from_slice.ensures.items)
+    (c.loop-byte.invariant ∙ ap (λ l. vec_items c.extend_from_slice.new.self ++ flat_map shown l) all)
+    (pushed (34 ∷ []) refl c.in_ok-extend_from_slice-2.was c.extend_from_slice-2.ensures.items)

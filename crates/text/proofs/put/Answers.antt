@@ -11,10 +11,10 @@ loop-rest-preserved c =
     let some = decimal_nonempty (l.rest / 10) (omega arith) in
     (omega arith, omega arith, omega arith, length-set _ _ _ ∙ l.invariant.3, digit_more l.out _ l.rest l.i (omega arith) (omega arith) (omega arith) (omega arith) l.invariant.4)
 
-pub overflow-sub-i : goal.overflow-sub-i
-overflow-sub-i c = omega (arith, decimal_nonempty c.loop-rest.rest (omega arith))
+pub overflow_sub-i : goal.overflow_sub-i
+overflow_sub-i c = omega (arith, decimal_nonempty c.loop-rest.rest (omega arith))
 
 pub returns : goal.returns
 returns c =
     let l = c.loop-rest in
-    record { bound = c.decimal-len-len.ensures.bound; front = digit_first l.out _ c.args.n l.rest l.i _ (omega arith) l.invariant.1 (omega arith) c.decimal-len-len.ensures.value l.invariant.4 }
+    record { bound = c.decimal_len-len.ensures.bound; front = digit_first l.out _ c.args.n l.rest l.i _ (omega arith) l.invariant.1 (omega arith) c.decimal_len-len.ensures.value l.invariant.4 }

@@ -6,14 +6,14 @@ use Rattle.bundle.proofs.bundles.read_lengths.Goals as goal
 pub loop-i-init : goal.loop-i-init
 loop-i-init c = lengths_none _ _ _ _ refl (search rules)
 
-pub returns-in-err-length : goal.returns-in-err-length
-returns-in-err-length c =
-    let p = err_from_is_err_and c.from-residual.result c.from-residual.ensures.1 in
-    rw (p.1, p.2) (record { is = lengths_stop _ _ _ _ _ _ c.loop-i.invariant _ (omega arith) c.in-err-length.ensures.is; small = tt })
+pub returns-in_err-length : goal.returns-in_err-length
+returns-in_err-length c =
+    let p = err_from_is_err_and c.from_residual.result c.from_residual.ensures.1 in
+    rw (p.1, p.2) (record { is = lengths_stop _ _ _ _ _ _ c.loop-i.invariant _ (omega arith) c.in_err-length.ensures.is; small = tt })
 
 pub loop-i-preserved : goal.loop-i-preserved
 loop-i-preserved c =
-    let told = c.in-ok-length.ensures in
+    let told = c.in_ok-length.ensures in
     lengths_more _ _ _ _ _ _ c.loop-i.invariant _ _ (omega arith) c.requires told.bound told.is
 
 pub returns : goal.returns

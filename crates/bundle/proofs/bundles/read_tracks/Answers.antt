@@ -5,6 +5,6 @@ use Rattle.bundle.proofs.bundles.read_tracks.Goals as goal
 
 pub total-requires : goal.total-requires
 total-requires c = record {
-  few = omega (arith, length-take (c.args.count - 0) c.in-ok-lengths.lengths, c.requires);
-  small = every_take (λ n. n < 2 ^ 42) (c.args.count - 0) c.in-ok-lengths.lengths c.in-ok-lengths.ensures.small;
+  few = omega (arith, length-take (c.args.count - 0) c.in_ok-lengths.lengths, c.requires);
+  small = every_take (λ n. n < 2 ^ 42) (c.args.count - 0) c.in_ok-lengths.lengths c.in_ok-lengths.ensures.small;
 }

@@ -9,6 +9,6 @@ returns c =
     let w = c.wire-wire.result in
     let h = c.wire-wire.ensures in
     record {
-      is = omega (arith, wired_length e w h, c.packed-len.ensures.is, c.packed-len-all-numbers.ensures.is);
-      bound = omega (arith, c.packed-len.ensures.bound, c.packed-len-all-numbers.ensures.bound, used_few e w h, wired_name e w h c.requires.1);
+      is = omega (arith, wired_length e w h, c.packed_len.ensures.is, c.packed_len_all-numbers.ensures.is);
+      bound = omega (arith, c.packed_len.ensures.bound, c.packed_len_all-numbers.ensures.bound, used_few e w h, wired_name e w h c.requires.1);
     }

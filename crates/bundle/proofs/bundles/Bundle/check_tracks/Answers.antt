@@ -4,19 +4,19 @@ use Rattle.bundle.specs.Bundles.{contents}
 use Rattle.bundle.proofs.Cutting.{faultless_more, faultless_stop, faultless_end}
 use Rattle.bundle.proofs.bundles.Bundle.check_tracks.Goals as goal
 
-pub returns-in-default : goal.returns-in-default
-returns-in-default c = faultless_end _ _ _ c.loop-number.invariant c.in-default.ensures
+pub returns-in_default : goal.returns-in_default
+returns-in_default c = faultless_end _ _ _ c.loop-number.invariant c.in_default.ensures
 
-pub returns-in-err-check : goal.returns-in-err-check
-returns-in-err-check c =
-    let p = err_from_is_err_and c.from-residual.result c.from-residual.ensures.1 in
+pub returns-in_err-check : goal.returns-in_err-check
+returns-in_err-check c =
+    let p = err_from_is_err_and c.from_residual.result c.from_residual.ensures.1 in
     let there = c.in-Some.ensures in
-    rw (p.1, p.2) (faultless_stop (contents c.args.self.now).pieces (contents c.args.self.now) _ c.loop-number.invariant _ _ there.0 there.1 c.in-err-check.ensures)
+    rw (p.1, p.2) (faultless_stop (contents c.args.self.now).pieces (contents c.args.self.now) _ c.loop-number.invariant _ _ there.0 there.1 c.in_err-check.ensures)
 
 pub loop-number-preserved : goal.loop-number-preserved
 loop-number-preserved c =
     let there = c.in-Some.ensures in
-    faultless_more (contents c.args.self.now).pieces (contents c.args.self.now) _ c.loop-number.invariant _ _ there.0 there.1 c.in-ok-check.ensures
+    faultless_more (contents c.args.self.now).pieces (contents c.args.self.now) _ c.loop-number.invariant _ _ there.0 there.1 c.in_ok-check.ensures
 
 pub returns : goal.returns
-returns c = faultless_end _ _ _ c.loop-number.invariant (omega (arith, c.track-count-number-end.ensures))
+returns c = faultless_end _ _ _ c.loop-number.invariant (omega (arith, c.track_count-number-end.ensures))

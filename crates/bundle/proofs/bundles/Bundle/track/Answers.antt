@@ -13,4 +13,4 @@ pub returns : goal.returns
 unfolding contents
 returns c =
     let n = front_length c.args.self.now.count c.args.self.now.ends c.args.self.now.tracks (omega arith) (omega arith) in
-    (omega (arith, n), front_at c.args.self.now.count c.args.self.now.ends c.args.self.now.tracks (omega arith) (omega arith) c.args.number 0 _ _ c.if-number-self.false c.if-number-ge-TRACK-LIMIT.false)
+    (omega (arith, n), front_at c.args.self.now.count c.args.self.now.ends c.args.self.now.tracks (omega arith) (omega arith) c.args.number 0 _ _ c.if-number-self.false c.if-number-ge-TRACK_LIMIT.false)

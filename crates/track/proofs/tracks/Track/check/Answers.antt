@@ -8,14 +8,14 @@ use Rattle.track.proofs.tracks.Track.check.Goals as goal
 pub loop-left-init : goal.loop-left-init
 loop-left-init c = ([], left_none _ _ _)
 
-pub returns-in-err-entry : goal.returns-in-err-entry
-returns-in-err-entry c =
-    let p = err_from_is_err_and c.from-residual.result c.from-residual.ensures.1 in
-    p.1 ∙ ap (λ f. Err f) p.2 ∙ ap counted (sym (left_stop _ _ _ _ _ _ _ c.loop-left.invariant.1 _ _ c.span-span.ensures (some_left _ c.loop-left-test.ensures) c.in-err-entry.ensures.is))
+pub returns-in_err-entry : goal.returns-in_err-entry
+returns-in_err-entry c =
+    let p = err_from_is_err_and c.from_residual.result c.from_residual.ensures.1 in
+    p.1 ∙ ap (λ f. Err f) p.2 ∙ ap counted (sym (left_stop _ _ _ _ _ _ _ c.loop-left.invariant.1 _ _ c.span-span.ensures (some_left _ c.loop-left-test.ensures) c.in_err-entry.ensures.is))
 
 pub loop-left-preserved : goal.loop-left-preserved
 loop-left-preserved c =
-    let told = c.in-ok-entry.ensures in
+    let told = c.in_ok-entry.ensures in
     (_, left_more _ _ _ _ _ _ _ c.loop-left.invariant.1 _ _ _ c.span-span.ensures (some_left _ c.loop-left-test.ensures) told.is told.taken)
 
 pub returns : goal.returns
