@@ -1,5 +1,5 @@
 -- What a bundle says, step by step.
-use Rattle.std.proofs.Common.{◌≡◌, ℕ, zero, suc, ◌+◌, ◌-◌, ◌^◌, ◌<◌, ◌≤◌, true, cond, ◌&&◌, eqb, leb, List, [], ◌∷◌, ◌++◌, map, length, take, drop, Ok, Err, sum, Result, sym, refl, ap, ◌∙◌, subst, append_assoc, arith}
+use Rattle.std.proofs.Common.{◌≡◌, ℕ, ◌+◌, ◌-◌, ◌^◌, ◌<◌, ◌≤◌, List, [], ◌∷◌, ◌++◌, map, length, Ok, Err, sum, Result, sym, refl, ap, ◌∙◌, subst, append_assoc, arith}
 use Rattle.std.specs.List.{flat_map, AllByRecursion}
 use Rattle.std.proofs.lemmas.List.{length-append, length-map, take_at, drop_at}
 use Rattle.std.proofs.lemmas.List.Sums.{sum_by-cons}
@@ -9,9 +9,8 @@ use Rattle.fault.specs.declared.Fault.{Fault}
 use Rattle.fault.specs.declared.Fault.TheVariants.{TooLong}
 use Rattle.fault.specs.declared.Span.{Span}
 use Rattle.track.specs.declared.tracks.Entry.{Entry}
-use Rattle.fault.specs.Faults.{Reads, next, place_of}
-use Rattle.number.specs.Numbers.{number_at, encode}
-use Rattle.track.specs.Records.{numbers_at}
+use Rattle.fault.specs.Faults.{next}
+use Rattle.number.specs.Numbers.{encode}
 use Rattle.track.specs.Tracks.{Timed, view_entry, AllFit, Piece, entries_of, packed_track}
 use Rattle.bundle.specs.Bundles.{Contents, told, piece, platform_of, clock_of, value_at, pieces_at, cut_at, tracks_at, header_at, header_span, header_of, after_track, faultless, tracks_checked, bundle_of, lengths_of, header_bytes, bundle_bytes, TracksAre, PackedBundleIsAccepted}
 use Rattle.track.proofs.RecordLaws.{number_then, numbers_back}

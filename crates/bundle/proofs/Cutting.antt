@@ -1,5 +1,5 @@
 -- What the loops over the lengths of the tracks keep.
-use Rattle.std.proofs.Common.{◌≡◌, ℕ, zero, suc, ◌+◌, ◌-◌, ◌*◌, ◌^◌, ◌<◌, ◌≤◌, min, List, [], ◌∷◌, ◌++◌, map, length, get_or, take, drop, set, Ok, Err, sum_by, sum, Result, sym, refl, ap, ◌∙◌, subst, append_assoc, append-nil, zero-add, arith, Bor}
+use Rattle.std.proofs.Common.{◌≡◌, ℕ, zero, suc, ◌+◌, ◌-◌, ◌*◌, ◌^◌, ◌<◌, ◌≤◌, min, List, [], ◌∷◌, ◌++◌, map, length, get_or, take, drop, set, Ok, Err, sum, Result, sym, refl, ap, ◌∙◌, append_assoc, append-nil, zero-add, arith, Bor}
 use Rattle.std.specs.List.{AllByRecursion}
 use Rattle.std.proofs.lemmas.List.{drop_more, drop_all, take_more_set, map-append, length-set, length-map, length-take, length-take-le, take_all, get_or-take, get_or-map}
 use Rattle.std.proofs.lemmas.List.Sums.{sum_by-drop_more, sum_by_more}

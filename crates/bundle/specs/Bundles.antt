@@ -1,5 +1,5 @@
 -- What the bytes of a bundle say.
-use Rattle.std.specs.Prelude.{◌≡◌, ℕ, ◌+◌, ◌-◌, ◌<◌, ◌≤◌, Bool, cond, ◌&&◌, List, [], ◌∷◌, ◌++◌, map, length, take, drop, Ok, Err, sum, Result, ◌==◌, nat_le, nat_lt}
+use Rattle.std.specs.Prelude.{◌≡◌, ℕ, ◌+◌, ◌-◌, ◌≤◌, cond, ◌&&◌, List, [], ◌∷◌, ◌++◌, map, length, take, drop, Ok, Err, sum, Result, ◌==◌, nat_le, nat_lt}
 use Rattle.std.specs.List.{flat_map, AllByRecursion}
 use Rattle.fault.specs.declared.Part.TheVariants as part
 use Rattle.fault.specs.declared.Span.{Span}
@@ -14,7 +14,7 @@ use Rattle.bundle.specs.declared.bundles.Bundle.{Bundle}
 use Rattle.fault.specs.Faults.{Reads, next, place_of}
 use Rattle.number.specs.Numbers.{number_at, encode}
 use Rattle.track.specs.Records.{numbers_at}
-use Rattle.track.specs.Tracks.{Timed, view_entry, track_bytes, AllFit, Piece, entries_of, packed_track, OneList}
+use Rattle.track.specs.Tracks.{Timed, view_entry, AllFit, Piece, entries_of, packed_track, OneList}
 
 -- a header number, with the values that it may have
 abbrev pub value_at : Span → ℕ → ℕ → List ℕ → Reads ℕ

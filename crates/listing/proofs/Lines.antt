@@ -1,6 +1,6 @@
 -- The lines of a track, one record after another.
-use Rattle.std.proofs.Common.{◌≡◌, ℕ, ◌+◌, List, [], ◌∷◌, ◌++◌, length, Ok, sym, refl, ap, ◌∙◌, append_assoc, append-nil}
-use Rattle.track.specs.Tracks.{Timed, Piece, stamp_after, track_of, entries_of}
+use Rattle.std.proofs.Common.{◌≡◌, ℕ, ◌+◌, List, [], ◌∷◌, ◌++◌, length, Ok, sym, ap, ◌∙◌, append_assoc, append-nil}
+use Rattle.track.specs.Tracks.{Timed, Piece, stamp_after, entries_of}
 use Rattle.listing.specs.Text.{line_text, lines_text, count_text, track_text, entries_text}
 use Rattle.listing.proofs.Pushes.{two}
 

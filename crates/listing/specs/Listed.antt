@@ -1,7 +1,6 @@
 -- What the parts of a listing leave.
 use Rattle.std.specs.Prelude.{◌≡◌, ℕ, ◌<◌, List, [], ◌++◌, length, Ok, Err, vec_items, Result, Vec, slice_index_or}
 use Rattle.std.specs.List.{flat_map}
-use Rattle.fault.specs.declared.Fault.{Fault}
 use Rattle.std.specs.declared.alloc.Global.{Global}
 use Rattle.bundle.specs.Bundles.{piece, bundle_of}
 use Rattle.track.specs.Tracks.{Piece, entries_of}

@@ -1,11 +1,10 @@
 -- What the loops over a list of entries keep.
-use Rattle.std.proofs.Common.{◌≡◌, ℕ, ◌+◌, ◌*◌, ◌<◌, ◌≤◌, List, [], ◌∷◌, ◌++◌, map, length, get_or, drop, sym, refl, ap, ◌∙◌, subst, arith, w64, Fits}
-use Rattle.std.specs.List.{flat_map}
-use Rattle.std.proofs.lemmas.List.{drop_more, drop_all, length-map, get_or-map, length-append}
+use Rattle.std.proofs.Common.{◌≡◌, ℕ, ◌+◌, ◌*◌, ◌<◌, ◌≤◌, List, [], ◌∷◌, map, length, get_or, drop, sym, ap, ◌∙◌, subst, arith, w64, Fits}
+use Rattle.std.proofs.lemmas.List.{drop_more, drop_all, length-map, get_or-map}
 use Rattle.track.specs.declared.tracks.Entry.{Entry}
 use Rattle.number.specs.Packed.{splice}
 use Rattle.track.specs.Tracks.{limit, Timed, view_entry, entry_bytes, track_bytes, FitsAfter, AllFit}
-use Rattle.track.proofs.Lists.{joined_left, length_left, joined_end, splice_left, splice_end}
+use Rattle.track.proofs.Lists.{length_left, splice_left, splice_end}
 
 abbrev pub rest : List Entry → ℕ → List Timed
 rest es i = drop i (map view_entry es)

@@ -1,16 +1,15 @@
 -- The entries of a track are read back, and what is read is the one packing of its entries.
-use Rattle.std.proofs.Common.{◌≡◌, ℕ, zero, suc, ◌+◌, ◌^◌, ◌<◌, ◌≤◌, cond, ltb, List, [], ◌∷◌, ◌++◌, map, length, Ok, Err, Result, sym, refl, ap, ◌∙◌, subst, ⊎_elim, append_assoc, append-nil, arith}
+use Rattle.std.proofs.Common.{◌≡◌, ℕ, zero, suc, ◌+◌, ◌<◌, ◌≤◌, List, [], ◌∷◌, ◌++◌, map, length, Ok, Err, Result, sym, refl, ap, ◌∙◌, subst, ⊎_elim, append_assoc, arith}
 use Rattle.std.specs.List.{flat_map}
 use Rattle.std.proofs.lemmas.List.{length-append}
 use Rattle.std.proofs.lemmas.Bool.{lt-ltb, le-ltb, cases_lt}
 use Rattle.fault.specs.declared.Span.{Span}
 use Rattle.fault.specs.declared.Fault.{Fault}
-use Rattle.fault.specs.declared.Fault.TheVariants.{StampPastLimit}
 use Rattle.track.specs.declared.tracks.Entry.{Entry}
-use Rattle.fault.specs.Faults.{Reads, next, place_of}
-use Rattle.number.specs.Numbers.{number_at, encode, Bytes}
-use Rattle.track.specs.Records.{shape, Seen, view, record_at, record_bytes, Whole, Fits}
-use Rattle.track.specs.Tracks.{limit, Timed, timed, view_entry, entry_at, prepend, record_span, track_in, track_of, stamp_after, entry_bytes, track_bytes, Wholes, FitsAfter, AllFit, Taken, RecordReadBack, RecordOnePacking, TrackReadBack, LegalTrackHasOneList}
+use Rattle.fault.specs.Faults.{next}
+use Rattle.number.specs.Numbers.{encode, Bytes}
+use Rattle.track.specs.Records.{shape, record_at, record_bytes, Whole, Fits}
+use Rattle.track.specs.Tracks.{limit, Timed, timed, view_entry, entry_at, prepend, record_span, track_in, track_of, stamp_after, entry_bytes, track_bytes, Wholes, AllFit, Taken, RecordReadBack, RecordOnePacking, TrackReadBack, LegalTrackHasOneList}
 use Rattle.number.proofs.NumberLaws.{encode_some}
 use Rattle.track.proofs.RecordLaws.{number_then, number_ok, next_ok, given, bytes_after, record_back, record_one, whole_view}
 

@@ -1,11 +1,11 @@
 -- A record laid out for packing, and the bytes that it packs to.
-use Rattle.std.proofs.Common.{◌≡◌, ℕ, ◌+◌, ◌-◌, ◌*◌, ◌^◌, ◌<◌, ◌≤◌, List, ◌∷◌, ◌++◌, length, take, sym, refl, ap, ◌∙◌, subst, arith}
+use Rattle.std.proofs.Common.{◌≡◌, ℕ, ◌+◌, ◌-◌, ◌^◌, ◌<◌, ◌≤◌, List, ◌∷◌, ◌++◌, length, take, sym, ap, ◌∙◌, subst, arith}
 use Rattle.std.specs.List.{flat_map, AllByRecursion}
 use Rattle.std.proofs.lemmas.List.{length-append, length-take-le}
 use Rattle.track.specs.declared.records.Wire.{Wire}
 use Rattle.number.specs.Numbers.{encode}
 use Rattle.number.specs.Packed.{splice}
-use Rattle.track.specs.Records.{Seen, shape, Fits, record_bytes}
+use Rattle.track.specs.Records.{shape, Fits}
 use Rattle.track.specs.Tracks.{Timed, entry_bytes}
 use Rattle.track.specs.Wires.{Wired}
 use Rattle.track.proofs.RecordLaws.{small_kind}

@@ -1,4 +1,4 @@
-use Rattle.std.proofs.Common.{[], vec_items, sym, ◌∙◌, append-nil, true-eqb}
+use Rattle.std.proofs.Common.{[], vec_items, sym, append-nil, true-eqb}
 use Rattle.std.proofs.lemmas.Result.{err_from_is_err_and}
 use Rattle.track.specs.Tracks.{piece_of, view_entry}
 use Rattle.track.proofs.Lists.{some_left}

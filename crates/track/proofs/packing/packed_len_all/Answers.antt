@@ -1,6 +1,6 @@
-use Rattle.std.proofs.Common.{◌^◌, ◌<◌, length, ap, arith}
+use Rattle.std.proofs.Common.{length, ap, arith}
 use Rattle.number.specs.Numbers.{encode}
-use Rattle.track.proofs.Lists.{every_at, length_left, joined_end}
+use Rattle.track.proofs.Lists.{length_left, joined_end}
 use Rattle.track.proofs.packing.packed_len_all.Goals as goal
 
 pub loop-n-preserved : goal.loop-n-preserved

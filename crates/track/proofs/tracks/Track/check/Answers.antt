@@ -1,4 +1,4 @@
-use Rattle.std.proofs.Common.{[], Ok, Err, sym, ap, ◌∙◌, arith, true-eqb}
+use Rattle.std.proofs.Common.{[], Ok, Err, sym, ap, ◌∙◌, true-eqb}
 use Rattle.std.proofs.lemmas.Result.{err_from_is_err_and}
 use Rattle.track.specs.Tracks.{counted}
 use Rattle.track.proofs.Lists.{some_left}
