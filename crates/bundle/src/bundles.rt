@@ -64,12 +64,7 @@ pub struct Bundle<'a> {
 }
 
 // Takes a header number off `bytes`, which has to lie between `low` and `high`.
-fn read_value<'a>(
-    span: Span,
-    low: u64,
-    high: u64,
-    bytes: &'a [u8],
-) -> Result<(u64, &'a [u8]), Fault>
+fn read_value(span: Span, low: u64, high: u64, bytes: &[u8]) -> Result<(u64, &[u8]), Fault>
     ensures is { MatchResult result (λ v. value_at span low high bytes.now ≡ Ok (v.0, v.1.now)) (λ e. value_at span low high bytes.now ≡ Err e) }
     ensures bound { IfOk result (λ v. v.0 ≤ high) }
 {
@@ -81,11 +76,7 @@ fn read_value<'a>(
 }
 
 // Takes the lengths of `count` tracks off `bytes`.
-fn read_lengths<'a>(
-    span: Span,
-    count: usize,
-    bytes: &'a [u8],
-) -> Result<([u64; 8], &'a [u8]), Fault>
+fn read_lengths(span: Span, count: usize, bytes: &[u8]) -> Result<([u64; 8], &[u8]), Fault>
     requires { count ≤ 8 }
     ensures is { MatchResult result (λ v. numbers_at span count bytes.now ≡ Ok (take count v.0, v.1.now)) (λ e. numbers_at span count bytes.now ≡ Err e) }
     ensures small { IfOk result (λ v. AllByRecursion (λ n. n < 2 ^ 42) v.0) }

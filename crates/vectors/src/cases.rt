@@ -44,8 +44,7 @@ fn entries<'a>(heap: Global, track: &Track<'a>) -> anyhow::Result<Vec<Entry<'a>>
     let mut left = track.bytes;
     let mut last = 0;
     while !left.is_empty() {
-        let span = track.span(all.len());
-        let Ok((entry, rest)) = tracks::read(span, last, left) else {
+        let Ok((entry, rest)) = tracks::read(track.span(all.len()), last, left) else {
             return Err(anyhow!("a track that was checked has a fault"));
         };
         last += entry.difference;
