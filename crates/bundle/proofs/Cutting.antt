@@ -92,13 +92,13 @@ front i ends tracks = paired 0 (take i ends) (map (λ x. x.now) (take i tracks))
 
 pub record Cut (start : ℕ) (ns body : List ℕ) (i end : ℕ) (ends : List ℕ) (tracks : List (Bor (List ℕ))) (left : List ℕ) : Type 0 where
   pub is : front i ends tracks ++ pieces_at i end (drop i ns) left ≡ pieces_at 0 start ns body
-  pub ends-room : length ends ≡ 8
+  pub ends_room : length ends ≡ 8
   pub room : length tracks ≡ 8
   pub sums : sum (drop i ns) ≡ length left
   pub stops : end + length left ≡ start + length body
 
 pub cut_none : (start : ℕ) (ns body ends : List ℕ) (tracks : List (Bor (List ℕ))) → length ends ≡ 8 → length tracks ≡ 8 → sum ns ≡ length body → Cut start ns body 0 start ends tracks body
-cut_none start ns body ends tracks g h e = record { is = refl; ends-room = g; room = h; sums = e; stops = refl }
+cut_none start ns body ends tracks g h e = record { is = refl; ends_room = g; room = h; sums = e; stops = refl }
 
 module _ (start : ℕ) (ns body : List ℕ) (i end : ℕ) (ends : List ℕ) (tracks : List (Bor (List ℕ))) (left : List ℕ) (c : Cut start ns body i end ends tracks left) where
   module _ (d : ℕ) (lt : i < length ns) where
@@ -110,10 +110,10 @@ module _ (start : ℕ) (ns body : List ℕ) (i end : ℕ) (ends : List ℕ) (tra
 
     front_more : (e : ℕ) (t : Bor (List ℕ)) → length ns ≤ 8 → front (i + 1) (set ends i e) (set tracks i t) ≡ front i ends tracks ++ piece i e t.now ∷ []
     front_more e t few =
-        (λ j. paired 0 (take_more_set ends i e (omega (arith, c.ends-room)) j) (map (λ x. x.now) (take_more_set tracks i t (omega (arith, c.room)) j)))
+        (λ j. paired 0 (take_more_set ends i e (omega (arith, c.ends_room)) j) (map (λ x. x.now) (take_more_set tracks i t (omega (arith, c.room)) j)))
         ∙ ap (paired 0 (take i ends ++ e ∷ [])) (map-append (λ x. x.now) (take i tracks) (t ∷ []))
-        ∙ paired_push 0 (take i ends) (map (λ x. x.now) (take i tracks)) e t.now (omega (arith, length-take-le i ends (omega (arith, c.ends-room)), length-take-le i tracks (omega (arith, c.room)), length-map (take i tracks) (λ x. x.now)))
-        ∙ ap (λ n. front i ends tracks ++ piece n e t.now ∷ []) (omega (arith, length-take-le i ends (omega (arith, c.ends-room))))
+        ∙ paired_push 0 (take i ends) (map (λ x. x.now) (take i tracks)) e t.now (omega (arith, length-take-le i ends (omega (arith, c.ends_room)), length-take-le i tracks (omega (arith, c.room)), length-map (take i tracks) (λ x. x.now)))
+        ∙ ap (λ n. front i ends tracks ++ piece n e t.now ∷ []) (omega (arith, length-take-le i ends (omega (arith, c.ends_room))))
 
     pub cut_more : (t : Bor (List ℕ)) (rest : List ℕ) → length ns ≤ 8 → t.now ≡ take (get_or ns i d) left → rest ≡ drop (get_or ns i d) left → length rest + get_or ns i d ≡ length left → Cut start ns body (i + 1) (end + get_or ns i d) (set ends i (end + get_or ns i d)) (set tracks i t) rest
     cut_more t rest few p r long = record {
@@ -122,7 +122,7 @@ module _ (start : ℕ) (ns body : List ℕ) (i end : ℕ) (ends : List ℕ) (tra
           ∙ (λ j. front i ends tracks ++ (piece i (end + get_or ns i d) (p j) ∷ after (r j)))
           ∙ ap (λ l. front i ends tracks ++ pieces_at i end l left) (sym (drop_more ns i d lt))
           ∙ c.is;
-      ends-room = length-set ends i (end + get_or ns i d) ∙ c.ends-room;
+      ends_room = length-set ends i (end + get_or ns i d) ∙ c.ends_room;
       room = length-set tracks i t ∙ c.room;
       sums = omega (arith, c.sums, sum_by-drop_more (λ x. x) ns i d lt, long);
       stops = omega (arith, c.stops, long);

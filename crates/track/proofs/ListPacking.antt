@@ -12,7 +12,7 @@ rest es i = drop i (map view_entry es)
 -- after i of the entries, which take len bytes and end at the stamp last
 pub record Measured (es : List Entry) (i last len : ℕ) : Type 0 where
   pub fit : AllFit last (rest es i) → AllFit 0 (map view_entry es)
-  pub fit-back : AllFit 0 (map view_entry es) → AllFit last (rest es i)
+  pub fit_back : AllFit 0 (map view_entry es) → AllFit last (rest es i)
   pub sum : len + length (track_bytes (rest es i)) ≡ length (track_bytes (map view_entry es))
   pub bound : len ≤ 60030 * i
   pub within : last ≤ limit
@@ -54,7 +54,7 @@ module _ (es : List Entry) (i last : ℕ) (d : Entry) (lt : i < length es) where
   pub measured_more : (len k : ℕ) → Measured es i last len → FitsAfter last here → k ≡ length (entry_bytes here) → k ≤ 60030 → Measured es (i + 1) (last + here.difference) (len + k)
   measured_more len k m f e b = record {
     fit = λ more. m.fit (subst (AllFit last) (sym rest_more) (f, more));
-    fit-back = λ all. (first_fits (m.fit-back all)).1;
+    fit_back = λ all. (first_fits (m.fit_back all)).1;
     sum = omega (arith, m.sum, rest_length);
     bound = omega (arith, m.bound);
     within = f.0;

@@ -3,7 +3,7 @@ use Rattle.track.proofs.ListPacking.{first_fits, measured_more, measured_end}
 use Rattle.track.proofs.packing.track_len.Goals as goal
 
 pub returns-then-not-fits_after : goal.returns-then-not-fits_after
-returns-then-not-fits_after c all = c.if-not-fits_after.ensures (first_fits _ _ _ _ c.loop-entry-test.true (c.loop-entry.invariant.fit-back all)).0
+returns-then-not-fits_after c all = c.if-not-fits_after.ensures (first_fits _ _ _ _ c.loop-entry-test.true (c.loop-entry.invariant.fit_back all)).0
 
 pub loop-entry-preserved : goal.loop-entry-preserved
 loop-entry-preserved c = measured_more _ _ _ _ c.loop-entry-test.true _ _ c.loop-entry.invariant c.if-not-fits_after.ensures c.entry_len-len.ensures.is c.entry_len-len.ensures.bound
