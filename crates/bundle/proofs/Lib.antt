@@ -1,3 +1,4 @@
-pub mod Cutting
+pub mod LengthReading
 pub mod BundleLaws
 pub mod OneList
+pub mod Numbering

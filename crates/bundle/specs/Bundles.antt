@@ -1,5 +1,5 @@
 -- What the bytes of a bundle say.
-use Rattle.std.specs.Prelude.{◌≡◌, ℕ, ◌+◌, ◌-◌, ◌≤◌, cond, ◌&&◌, List, [], ◌∷◌, ◌++◌, map, length, take, drop, Ok, Err, sum, Result, ◌==◌, nat_le, nat_lt}
+use Rattle.std.specs.Prelude.{◌≡◌, ℕ, ◌+◌, ◌-◌, ◌≤◌, cond, ◌&&◌, List, [], ◌∷◌, ◌++◌, map, length, take, drop, Ok, Err, ◌⊎◌, sum, Result, ◌==◌, nat_le, nat_lt}
 use Rattle.std.specs.List.{flat_map, AllByRecursion}
 use Rattle.fault.specs.declared.Part.TheVariants as part
 use Rattle.fault.specs.declared.Span.{Span}
@@ -7,24 +7,19 @@ use Rattle.fault.specs.declared.Fault.{Fault}
 use Rattle.fault.specs.declared.Fault.TheVariants.{HeaderValue, LengthsMismatch, TooLong}
 use Rattle.track.specs.declared.tracks.Entry.{Entry}
 use Rattle.bundle.specs.declared.bundles.PlatformKind.{PlatformKind}
-use Rattle.bundle.specs.declared.bundles.PlatformKind.TheVariants.{Idle, Firmware}
 use Rattle.bundle.specs.declared.bundles.ClockKind.{ClockKind}
-use Rattle.bundle.specs.declared.bundles.ClockKind.TheVariants as clock
 use Rattle.bundle.specs.declared.bundles.Bundle.{Bundle}
+use Rattle.fault.specs.declared.Reader.{Reader}
 use Rattle.fault.specs.Faults.{Reads, next, place_of}
 use Rattle.number.specs.Numbers.{number_at, encode}
 use Rattle.track.specs.Records.{numbers_at}
-use Rattle.track.specs.Tracks.{Timed, view_entry, AllFit, Piece, entries_of, packed_track, OneList}
+use Rattle.bundle.specs.Items.{items}
+use Rattle.bundle.specs.Kinds.{platform_of, clock_of}
+use Rattle.track.specs.Tracks.{Timed, view_entry, AllFit, Piece, piece_of, entries_of, packed_track, OneList}
 
 -- a header number, with the values that it may have
 abbrev pub value_at : Span → ℕ → ℕ → List ℕ → Reads ℕ
 value_at s low high bs = next (number_at s bs) (λ n r. cond (nat_le low n && nat_le n high) (Ok (n, r)) (Err (HeaderValue (place_of s bs))))
-
-abbrev pub platform_of : ℕ → PlatformKind
-platform_of n = cond (n == 1) Idle Firmware
-
-abbrev pub clock_of : ℕ → ClockKind
-clock_of n = cond (n == 1) clock.Track clock.Tick
 
 -- what the header says: the platform, the clock and each track's bytes
 pub record Contents : Type 0 where
@@ -38,28 +33,34 @@ told platform clock pieces = record { platform = platform; clock = clock; pieces
 abbrev pub piece : ℕ → ℕ → List ℕ → Piece
 piece i end bytes = record { number = i; end = end; bytes = bytes }
 
--- the tracks from number i on, by their ends and their bytes
-abbrev pub paired : ℕ → List ℕ → List (List ℕ) → List Piece
-paired i [] ts = []
-paired i (e ∷ es) [] = []
-paired i (e ∷ es) (t ∷ ts) = piece i e t ∷ paired (i + 1) es ts
-
 unfoldable pub contents : Bundle → Contents
-contents b = told b.platform b.clock (paired 0 (take b.count b.ends) (map (λ x. x.now) (take b.count b.tracks)))
+contents b = told b.platform b.clock (map piece_of (items b.tracks))
 
 -- the tracks from number i on, of the lengths ns, in what is left of the bundle from an offset on
 abbrev pub pieces_at : ℕ → ℕ → List ℕ → List ℕ → List Piece
 pieces_at i start [] left = []
 pieces_at i start (n ∷ ns) left = piece i (start + n) (take n left) ∷ pieces_at (i + 1) (start + n) ns (drop n left)
 
+-- what a number stands for was read, or it stands for nothing, or it has a fault
+abbrev pub Kinded : {X E : Type 0} → (ℕ → Result X E → Type 0) → Reader → Reader → Result X Fault → Type 0
+Kinded gives old new (Ok x) = (n : ℕ) × (number_at old.span old.rest.now ≡ Ok (n, new.rest.now)) × (new.span ≡ old.span) × gives n (Ok x)
+Kinded gives old new (Err f) =
+    (number_at old.span old.rest.now ≡ Err f)
+    ⊎ ((n : ℕ) × (r : List ℕ) × (e : _) × (number_at old.span old.rest.now ≡ Ok (n, r)) × gives n (Err e) × (f ≡ HeaderValue (place_of old.span old.rest.now)))
+
 -- the tracks, whose lengths must end the bundle
-abbrev pub cut_at : Span → ℕ → ℕ → List ℕ → List ℕ → Result Contents Fault
-cut_at s platform clock ns body = cond (sum ns == length body)
-    (Ok (told (platform_of platform) (clock_of clock) (pieces_at 0 (s.end - length body) ns body)))
-    (Err (LengthsMismatch (place_of s body)))
+abbrev pub cut_at : Span → List ℕ → List ℕ → Result (List Piece) Fault
+cut_at s ns body = cond (sum ns == length body) (Ok (pieces_at 0 (s.end - length body) ns body)) (Err (LengthsMismatch (place_of s body)))
+
+abbrev pub pieces_from : Span → ℕ → List ℕ → Result (List Piece) Fault
+pieces_from s count r = next (numbers_at s count r) (cut_at s)
+
+abbrev pub with_pieces : PlatformKind → ClockKind → Result (List Piece) Fault → Result Contents Fault
+with_pieces platform clock (Ok ps) = Ok (told platform clock ps)
+with_pieces platform clock (Err f) = Err f
 
 abbrev pub tracks_at : Span → ℕ → ℕ → ℕ → List ℕ → Result Contents Fault
-tracks_at s platform clock count r = next (numbers_at s count r) (cut_at s platform clock)
+tracks_at s platform clock count r = with_pieces (platform_of platform) (clock_of clock) (pieces_from s count r)
 
 -- version 1, platform 1 or 2, clock 1 or 2, a 0, 1 to 8 tracks, their lengths
 abbrev pub header_at : Span → List ℕ → Result Contents Fault

@@ -3,3 +3,4 @@
 
 pub mod bundles;
 pub mod theorems;
+mod tracks;

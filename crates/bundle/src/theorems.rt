@@ -4,8 +4,7 @@ ghost use Rattle.bundle.specs.Bundles.{PackedBundleIsAccepted};
 
 // A bundle of one to eight packed tracks within 60,000 bytes has no fault, and says just what was
 // packed: the reader does not fault everything.
-pub fn packed_bundle_is_accepted() -> u8
+#[tactic(auto, using(crate::proofs::BundleLaws::packed_bundle_is_accepted))]
+pub fn packed_bundle_is_accepted()
     ensures { PackedBundleIsAccepted }
-{
-    0
-}
+{}

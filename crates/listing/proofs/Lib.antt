@@ -1,3 +1,1 @@
-pub mod Pushes
 pub mod Lines
-pub mod Listings

@@ -1,6 +1,7 @@
 -- What the parts of a listing leave.
-use Rattle.std.specs.Prelude.{◌≡◌, ℕ, ◌<◌, List, [], ◌++◌, length, Ok, Err, vec_items, Result, Vec, slice_index_or}
+use Rattle.std.specs.Prelude.{◌≡◌, ℕ, ◌<◌, List, [], ◌++◌, length, Ok, Err, Result, String, slice_index_or}
 use Rattle.std.specs.List.{flat_map}
+use Rattle.std.specs.String.{string_bytes}
 use Rattle.std.specs.declared.alloc.Global.{Global}
 use Rattle.bundle.specs.Bundles.{piece, bundle_of}
 use Rattle.track.specs.Tracks.{Piece, entries_of}
@@ -21,7 +22,7 @@ AllListed ps old new (Err (Faulty f)) = (i : ℕ) × (i < length ps) × (entries
 AllListed ps old new (Err (NoMemory e)) = Unit {0}
 
 -- a whole bundle is listed, or its first fault is told
-abbrev pub Whole : List ℕ → Result (Vec ℕ Global) Stop → Type 0
-Whole bs (Ok v) = vec_items v ≡ listing_text bs
+abbrev pub Whole : List ℕ → Result (String Global) Stop → Type 0
+Whole bs (Ok text) = string_bytes text ≡ listing_text bs
 Whole bs (Err (Faulty f)) = bundle_of bs ≡ Err f
 Whole bs (Err (NoMemory e)) = Unit {0}

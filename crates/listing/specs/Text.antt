@@ -2,42 +2,20 @@
 use Rattle.std.specs.Prelude.{ℕ, ◌+◌, ◌/◌, ◌%◌, Bool, cond, not, ◌||◌, List, [], ◌∷◌, ◌++◌, length, take, Ok, Err, codes, decimal, Result, ◌==◌, nat_lt}
 use Rattle.std.specs.List.{flat_map}
 use Rattle.fault.specs.declared.Fault.{Fault}
-use Rattle.fault.specs.declared.FaultNumbers.{FaultNumbers}
-use Rattle.track.specs.declared.records.Kind.{Kind}
-use Rattle.track.specs.declared.records.Kind.TheVariants.{Enrol, Event, Stay, Relax, Tick, Read, Write, Step, Autosleep, Round, Load, Unknown}
-use Rattle.fault.specs.Faults.{numbers_of}
+use Rattle.fault.specs.Faults.{field_text, fault_words}
 use Rattle.track.specs.Records.{Seen, shape}
-use Rattle.bundle.specs.declared.bundles.PlatformKind.{PlatformKind}
-use Rattle.bundle.specs.declared.bundles.PlatformKind.TheVariants.{Idle, Firmware}
-use Rattle.bundle.specs.declared.bundles.ClockKind.{ClockKind}
-use Rattle.bundle.specs.declared.bundles.ClockKind.TheVariants as clock
 use Rattle.track.specs.Tracks.{Timed, Piece, entries_of}
+use Rattle.track.specs.Words.{kind_name}
 use Rattle.bundle.specs.Bundles.{Contents, bundle_of}
+use Rattle.bundle.specs.Words.{platform_name, clock_name}
 
--- a number after a space
-abbrev pub field_text : ℕ → List ℕ
-field_text n = 32 ∷ decimal n
-
-abbrev pub fault_fields : FaultNumbers → List ℕ
-fault_fields f = f.layer ∷ f.cause ∷ f.place ∷ f.track ∷ f.«record» ∷ []
+-- a line of these words
+abbrev pub line : List ℕ → List ℕ
+line words = words ++ (10 ∷ [])
 
 -- the word fault, layer, cause, place, track and record
 abbrev pub fault_text : Fault → List ℕ
-fault_text f = codes "fault" ++ (flat_map field_text (fault_fields (numbers_of f)) ++ (10 ∷ []))
-
-abbrev pub kind_name : Kind → List ℕ
-kind_name Enrol = codes "enrol"
-kind_name Event = codes "event"
-kind_name Stay = codes "stay"
-kind_name Relax = codes "relax"
-kind_name Tick = codes "tick"
-kind_name Read = codes "read"
-kind_name Write = codes "write"
-kind_name Step = codes "step"
-kind_name Autosleep = codes "autosleep"
-kind_name Round = codes "round"
-kind_name Load = codes "load"
-kind_name (Unknown n) = codes "unknown"
+fault_text f = line (fault_words f)
 
 abbrev pub hex_digit : ℕ → ℕ
 hex_digit n = cond (nat_lt n 10) (48 + n) (55 + n)
@@ -50,17 +28,20 @@ plain b = not (nat_lt b 32 || (nat_lt 126 b || (b == 34 || b == 92)))
 abbrev pub shown : ℕ → List ℕ
 shown b = cond (plain b) (b ∷ []) (92 ∷ 120 ∷ hex_digit (b / 16) ∷ hex_digit (b % 16) ∷ [])
 
--- a name in quotes, after a space
+-- a name in quotes
 abbrev pub name_text : List ℕ → List ℕ
-name_text name = (32 ∷ 34 ∷ []) ++ (flat_map shown name ++ (34 ∷ []))
+name_text name = 34 ∷ (flat_map shown name ++ (34 ∷ []))
 
 -- the fields, and in place of a name's length the name
 abbrev pub fields_text : Seen → List ℕ
-fields_text v = cond (shape v.kind).texts (flat_map field_text (take 2 v.fields) ++ name_text v.text) (flat_map field_text v.fields)
+fields_text v = cond (shape v.kind).texts (flat_map field_text (take 2 v.fields) ++ (32 ∷ name_text v.text)) (flat_map field_text v.fields)
 
 -- stamp, track, kind by name, fields
+abbrev pub line_words : ℕ → ℕ → Seen → List ℕ
+line_words stamp track v = decimal stamp ++ field_text track ++ (32 ∷ kind_name v.kind) ++ fields_text v
+
 abbrev pub line_text : ℕ → ℕ → Seen → List ℕ
-line_text stamp track v = decimal stamp ++ (field_text track ++ ((32 ∷ kind_name v.kind) ++ (fields_text v ++ (10 ∷ []))))
+line_text stamp track v = line (line_words stamp track v)
 
 -- the records of a track from a last stamp on
 abbrev pub lines_text : ℕ → ℕ → List Timed → List ℕ
@@ -68,20 +49,18 @@ lines_text track last [] = []
 lines_text track last (e ∷ es) = line_text (last + e.difference) track e.what ++ lines_text track (last + e.difference) es
 
 -- how many records a track has
+abbrev pub count_words : ℕ → ℕ → List ℕ
+count_words track n = codes "track" ++ field_text track ++ codes " records" ++ field_text n
+
 abbrev pub count_text : ℕ → ℕ → List ℕ
-count_text track n = codes "track" ++ (field_text track ++ (codes " records" ++ (field_text n ++ (10 ∷ []))))
-
-abbrev pub platform_name : PlatformKind → List ℕ
-platform_name Idle = codes "idle"
-platform_name Firmware = codes "firmware"
-
-abbrev pub clock_name : ClockKind → List ℕ
-clock_name clock.Track = codes "track"
-clock_name clock.Tick = codes "tick"
+count_text track n = line (count_words track n)
 
 -- the header: platform, clock and how many tracks there are
+abbrev pub head_words : Contents → List ℕ
+head_words c = codes "platform " ++ platform_name c.platform ++ codes " clock " ++ clock_name c.clock ++ codes " tracks" ++ field_text (length c.pieces)
+
 abbrev pub head_text : Contents → List ℕ
-head_text c = (codes "platform " ++ platform_name c.platform) ++ ((codes " clock " ++ clock_name c.clock) ++ (codes " tracks" ++ (field_text (length c.pieces) ++ (10 ∷ []))))
+head_text c = line (head_words c)
 
 -- a track with no fault: its records, and how many they are
 abbrev pub entries_text : ℕ → Result (List Timed) Fault → List ℕ

@@ -1,4 +1,3 @@
-pub mod NumberSteps
 pub mod NumberLaws
 pub mod NumberReading
-pub mod Splices
+pub mod Puts

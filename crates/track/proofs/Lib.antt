@@ -1,5 +1,4 @@
-pub mod Lists
 pub mod RecordLaws
 pub mod TrackLaws
-pub mod Wiring
 pub mod ListPacking
+pub mod Walks

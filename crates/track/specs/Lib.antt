@@ -1,3 +1,4 @@
 pub mod Records
 pub mod Tracks
-pub mod Wires
+pub mod Stepping
+pub mod Words

@@ -118,5 +118,4 @@ OneList bs read = AllFit 0 read × (track_bytes read ≡ bs) × ((es : List Entr
 
 -- a legal track, one with no fault and at most 60,000 bytes, packs from just one list of records
 abbrev pub LegalTrackHasOneList : Type 0
-LegalTrackHasOneList = (end track : ℕ) (bs : List ℕ) (read : List Timed) → Bytes bs → length bs ≤ 60000 → track_of end track bs ≡ Ok read →
-    AllFit 0 read × (track_bytes read ≡ bs) × ((es : List Entry) → AllFit 0 (map view_entry es) → packed_track es ≡ bs → map view_entry es ≡ read)
+LegalTrackHasOneList = (end track : ℕ) (bs : List ℕ) (read : List Timed) → Bytes bs → length bs ≤ 60000 → track_of end track bs ≡ Ok read → OneList bs read

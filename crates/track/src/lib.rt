@@ -5,6 +5,7 @@
 // says what holds of packing and reading together.
 #![tactic(auto)]
 
+mod entries;
 pub mod packing;
 pub mod records;
 pub mod theorems;

@@ -1,12 +1,15 @@
 // Records: a kind and its fields.
-ghost use Rattle.std.specs.Prelude.{◌≡◌, ◌<◌, ◌≤◌, true, length, IfOk, Ok, Err, MatchResult};
+ghost use Rattle.std.specs.Prelude.{◌≡◌, ◌<◌, ◌≤◌, ◌∷◌, true, length, IfOk, Some, Ok, Err};
+ghost use Rattle.fault.specs.Faults.{Given};
 ghost use Rattle.track.specs.Records.{shape, kind_of, view, text_at, fields_at, record_at};
-ghost use Rattle.track.specs.Wires.{Wired};
+ghost use Rattle.track.specs.Words.{kind_name};
 
-use fault::{Fault, Span};
+use arrayvec::ArrayVec;
+use fault::{Fault, Reader};
+use std::fmt;
 
 // What a record calls for.
-#[derive(Clone, Copy)]
+#[derive(Clone, Copy, PartialEq, Eq, Debug)]
 pub enum Kind {
     Enrol,
     Event,
@@ -24,26 +27,7 @@ pub enum Kind {
 }
 
 impl Kind {
-    // The kind that a number stands for.
-    fn of(number: u64) -> Kind
-        ensures { result ≡ kind_of number }
-    {
-        match number {
-            1 => Kind::Enrol,
-            3 => Kind::Event,
-            4 => Kind::Stay,
-            5 => Kind::Relax,
-            8 => Kind::Tick,
-            9 => Kind::Read,
-            10 => Kind::Write,
-            11 => Kind::Step,
-            12 => Kind::Autosleep,
-            13 => Kind::Round,
-            14 => Kind::Load,
-            _ => Kind::Unknown(number),
-        }
-    }
-
+    // The number of a kind. No `From`: `kind.number()` says what it is, and `u64::from(kind)` would not.
     pub fn number(self) -> u64
         ensures { result ≡ (shape self).number }
     {
@@ -61,6 +45,50 @@ impl Kind {
             Kind::Load => 14,
             Kind::Unknown(number) => number,
         }
+    }
+}
+
+// The kind that a number stands for.
+impl From<u64> for Kind {
+    ghost from_gives = { λ n k. k ≡ kind_of n };
+
+    fn from(number: u64) -> Kind {
+        match number {
+            1 => Kind::Enrol,
+            3 => Kind::Event,
+            4 => Kind::Stay,
+            5 => Kind::Relax,
+            8 => Kind::Tick,
+            9 => Kind::Read,
+            10 => Kind::Write,
+            11 => Kind::Step,
+            12 => Kind::Autosleep,
+            13 => Kind::Round,
+            14 => Kind::Load,
+            _ => Kind::Unknown(number),
+        }
+    }
+}
+
+// The word of a kind.
+impl fmt::Display for Kind {
+    ghost output = { λ k. Some (kind_name k) };
+
+    fn fmt<W: fmt::Write>(&self, f: &mut fmt::Formatter<W>) -> fmt::Result {
+        f.write_str(match self {
+            Kind::Enrol => "enrol",
+            Kind::Event => "event",
+            Kind::Stay => "stay",
+            Kind::Relax => "relax",
+            Kind::Tick => "tick",
+            Kind::Read => "read",
+            Kind::Write => "write",
+            Kind::Step => "step",
+            Kind::Autosleep => "autosleep",
+            Kind::Round => "round",
+            Kind::Load => "load",
+            Kind::Unknown(_) => "unknown",
+        })
     }
 }
 
@@ -101,7 +129,42 @@ pub enum Record<'a> {
     },
 }
 
-impl Record<'_> {
+impl<'a> Record<'a> {
+    // Takes a kind and its fields off a reader.
+    pub(crate) fn read(reader: &mut Reader<'a>) -> Result<Record<'a>, Fault>
+        ensures { Given view record_at reader.old reader.new result }
+    {
+        let place = reader.place();
+        match Kind::from(number::read(reader)?) {
+            Kind::Enrol => read_enrol(reader),
+            Kind::Event => Ok(Record::Event {
+                number: number::read(reader)?,
+                millis: number::read(reader)?,
+            }),
+            Kind::Stay => Ok(Record::Stay {
+                number: number::read(reader)?,
+            }),
+            Kind::Relax => Ok(Record::Relax {
+                number: number::read(reader)?,
+            }),
+            Kind::Tick => Ok(Record::Tick),
+            Kind::Read => Ok(Record::Read),
+            Kind::Write => Ok(Record::Write {
+                sleep: number::read(reader)?,
+            }),
+            Kind::Step => Ok(Record::Step),
+            Kind::Autosleep => Ok(Record::Autosleep {
+                sleep: number::read(reader)?,
+            }),
+            Kind::Round => Ok(Record::Round),
+            Kind::Load => Ok(Record::Load {
+                cause: number::read(reader)?,
+                status: number::read(reader)?,
+            }),
+            Kind::Unknown(_) => Err(Fault::UnknownKind(place)),
+        }
+    }
+
     pub fn kind(&self) -> Kind
         ensures { result ≡ (view self.now).kind }
     {
@@ -120,48 +183,46 @@ impl Record<'_> {
             Record::Unknown { kind } => Kind::Unknown(*kind),
         }
     }
-}
 
-// A record as it is packed: the first `count` of `numbers`, the kind's first, and then the text.
-#[derive(Clone, Copy)]
-pub(crate) struct Wire<'a> {
-    pub(crate) numbers: [u64; 4],
-    pub(crate) count: usize,
-    pub(crate) text: &'a [u8],
-}
-
-impl<'a> Record<'a> {
-    pub(crate) fn wire(&self) -> Wire<'a>
-        ensures { Wired (view self.now) result }
+    // The numbers of a record in the order of the format, the kind's first.
+    pub(crate) fn numbers(&self) -> ArrayVec<u64, 4>
+        ensures { result.items ≡ (shape (view self.now).kind).number ∷ (view self.now).fields }
     {
-        let kind = self.kind().number();
-        let (numbers, count) = match *self {
+        let mut numbers = ArrayVec::new();
+        numbers.push(self.kind().number());
+        match *self {
             Record::Enrol {
                 number,
                 wake_hold,
                 name,
-            } => ([kind, number, wake_hold, name.len() as u64], 4),
-            Record::Event { number, millis } => ([kind, number, millis, 0], 3),
-            Record::Stay { number } => ([kind, number, 0, 0], 2),
-            Record::Relax { number } => ([kind, number, 0, 0], 2),
-            Record::Write { sleep } => ([kind, sleep, 0, 0], 2),
-            Record::Autosleep { sleep } => ([kind, sleep, 0, 0], 2),
-            Record::Load { cause, status } => ([kind, cause, status, 0], 3),
-            Record::Tick => ([kind, 0, 0, 0], 1),
-            Record::Read => ([kind, 0, 0, 0], 1),
-            Record::Step => ([kind, 0, 0, 0], 1),
-            Record::Round => ([kind, 0, 0, 0], 1),
-            Record::Unknown { .. } => ([kind, 0, 0, 0], 1),
-        };
-        Wire {
-            numbers,
-            count,
-            text: self.text(),
+            } => {
+                numbers.push(number);
+                numbers.push(wake_hold);
+                numbers.push(name.len() as u64);
+            }
+            Record::Event {
+                number: first,
+                millis: second,
+            }
+            | Record::Load {
+                cause: first,
+                status: second,
+            } => {
+                numbers.push(first);
+                numbers.push(second);
+            }
+            Record::Stay { number: only }
+            | Record::Relax { number: only }
+            | Record::Write { sleep: only }
+            | Record::Autosleep { sleep: only } => numbers.push(only),
+            Record::Tick | Record::Read | Record::Step | Record::Round | Record::Unknown { .. } =>
+                (),
         }
+        numbers
     }
 
     // The name of an enrol; no other kind has a text.
-    fn text(&self) -> &'a [u8]
+    pub(crate) fn text(&self) -> &'a [u8]
         ensures { result.now ≡ (view self.now).text }
     {
         match *self {
@@ -171,81 +232,24 @@ impl<'a> Record<'a> {
     }
 }
 
-fn read_text<'a>(span: Span, len: u64, bytes: &'a [u8]) -> Result<(&'a [u8], &'a [u8]), Fault>
-    ensures is { MatchResult result (λ v. text_at span len bytes.now ≡ Ok (v.0.now, v.1.now)) (λ e. text_at span len bytes.now ≡ Err e) }
-    ensures long { IfOk result (λ v. length v.0.now ≡ len) }
+// Takes a text of `len` bytes off a reader.
+fn read_text<'a>(reader: &mut Reader<'a>, len: u64) -> Result<&'a [u8], Fault>
+    ensures is { Given (λ t. t.now) (λ s bs. text_at s len bs) reader.old reader.new result }
+    ensures long { IfOk result (λ t. length t.now ≡ len) }
 {
-    if (bytes.len() as u64) < len {
-        return Err(Fault::TextCutOff(span.place(bytes)));
-    }
-    Ok(bytes.split_at(len as usize))
+    let place = reader.place();
+    reader.take(len).ok_or(Fault::TextCutOff(place))
 }
 
-fn read_enrol<'a>(span: Span, bytes: &'a [u8]) -> Result<(Record<'a>, &'a [u8]), Fault>
-    ensures { MatchResult result (λ v. fields_at span bytes.now Kind.Enrol ≡ Ok (view v.0, v.1.now)) (λ e. fields_at span bytes.now Kind.Enrol ≡ Err e) }
+fn read_enrol<'a>(reader: &mut Reader<'a>) -> Result<Record<'a>, Fault>
+    ensures { Given view (λ s bs. fields_at s bs Kind.Enrol) reader.old reader.new result }
 {
-    let (number, rest) = number::read(span, bytes)?;
-    let (wake_hold, rest) = number::read(span, rest)?;
-    let (len, rest) = number::read(span, rest)?;
-    let (name, rest) = read_text(span, len, rest)?;
-    Ok((
-        Record::Enrol {
-            number,
-            wake_hold,
-            name,
-        },
-        rest,
-    ))
-}
-
-// The fields of a known kind.
-fn read_fields<'a>(span: Span, bytes: &'a [u8], kind: Kind) -> Result<(Record<'a>, &'a [u8]), Fault>
-    requires { (shape kind).known ≡ true }
-    ensures { MatchResult result (λ v. fields_at span bytes.now kind ≡ Ok (view v.0, v.1.now)) (λ e. fields_at span bytes.now kind ≡ Err e) }
-{
-    match kind {
-        Kind::Enrol => read_enrol(span, bytes),
-        Kind::Event => {
-            let (number, rest) = number::read(span, bytes)?;
-            let (millis, rest) = number::read(span, rest)?;
-            Ok((Record::Event { number, millis }, rest))
-        }
-        Kind::Stay => {
-            let (number, rest) = number::read(span, bytes)?;
-            Ok((Record::Stay { number }, rest))
-        }
-        Kind::Relax => {
-            let (number, rest) = number::read(span, bytes)?;
-            Ok((Record::Relax { number }, rest))
-        }
-        Kind::Tick => Ok((Record::Tick, bytes)),
-        Kind::Read => Ok((Record::Read, bytes)),
-        Kind::Write => {
-            let (sleep, rest) = number::read(span, bytes)?;
-            Ok((Record::Write { sleep }, rest))
-        }
-        Kind::Step => Ok((Record::Step, bytes)),
-        Kind::Autosleep => {
-            let (sleep, rest) = number::read(span, bytes)?;
-            Ok((Record::Autosleep { sleep }, rest))
-        }
-        Kind::Round => Ok((Record::Round, bytes)),
-        Kind::Load => {
-            let (cause, rest) = number::read(span, bytes)?;
-            let (status, rest) = number::read(span, rest)?;
-            Ok((Record::Load { cause, status }, rest))
-        }
-        Kind::Unknown(_) => unreachable(),
-    }
-}
-
-// Takes a kind and its fields off `bytes`, which is what is left of `span`.
-pub(crate) fn read<'a>(span: Span, bytes: &'a [u8]) -> Result<(Record<'a>, &'a [u8]), Fault>
-    ensures { MatchResult result (λ v. record_at span bytes.now ≡ Ok (view v.0, v.1.now)) (λ e. record_at span bytes.now ≡ Err e) }
-{
-    let (number, rest) = number::read(span, bytes)?;
-    match Kind::of(number) {
-        Kind::Unknown(_) => Err(Fault::UnknownKind(span.place(bytes))),
-        kind => read_fields(span, rest, kind),
-    }
+    let number = number::read(reader)?;
+    let wake_hold = number::read(reader)?;
+    let len = number::read(reader)?;
+    Ok(Record::Enrol {
+        number,
+        wake_hold,
+        name: read_text(reader, len)?,
+    })
 }

@@ -1,10 +1,10 @@
 // Tracks: records one after another, each with its difference from the stamp before it.
-ghost use Rattle.std.specs.Prelude.{◌≡◌, ◌+◌, ◌<◌, ◌≤◌, length, IfOk, Ok, Err, MatchResult};
+ghost use Rattle.std.specs.Prelude.{◌≡◌, ◌+◌, ◌^◌, ◌<◌, ◌≤◌, length, IfOk, OnErr};
+ghost use Rattle.fault.specs.Faults.{Given};
 ghost use Rattle.track.specs.Tracks.{view_entry, entry_at, record_span, piece_of, entries_of, counted, Taken};
 
-use crate::records;
 use crate::records::Record;
-use fault::{Fault, Part, Span};
+use fault::{Fault, Part, Reader, Span};
 
 // The latest stamp, in milliseconds: 2^38 - 1.
 pub const TIME_LIMIT: u64 = 274_877_906_943;
@@ -16,17 +16,22 @@ pub struct Entry<'a> {
     pub record: Record<'a>,
 }
 
-// Takes an entry off `bytes`, which is what is left of `span`, after the stamp `last`.
-pub fn read<'a>(span: Span, last: u64, bytes: &'a [u8]) -> Result<(Entry<'a>, &'a [u8]), Fault>
-    ensures is { MatchResult result (λ v. entry_at span last bytes.now ≡ Ok (view_entry v.0, v.1.now)) (λ e. entry_at span last bytes.now ≡ Err e) }
-    ensures taken { IfOk result (λ v. Taken last bytes.now (view_entry v.0) v.1.now) }
-{
-    let (difference, rest) = number::read(span, bytes)?;
-    if last.saturating_add(difference) > TIME_LIMIT {
-        return Err(Fault::StampPastLimit(span.place(bytes)));
+impl<'a> Entry<'a> {
+    // Takes an entry off a reader, after the stamp `last`.
+    pub fn read(reader: &mut Reader<'a>, last: u64) -> Result<Entry<'a>, Fault>
+        ensures is { Given view_entry (λ s bs. entry_at s last bs) reader.old reader.new result }
+        ensures taken { IfOk result (λ e. Taken last reader.old.rest.now (view_entry e) reader.new.rest.now) }
+        ensures kept { OnErr result (reader.new ≡ reader.old) }
+    {
+        let mut left = *reader;
+        let difference = number::read(&mut left)?;
+        if last.saturating_add(difference) > TIME_LIMIT {
+            return Err(Fault::StampPastLimit(reader.place()));
+        }
+        let record = Record::read(&mut left)?;
+        *reader = left;
+        Ok(Entry { difference, record })
     }
-    let (record, rest) = records::read(span, rest)?;
-    Ok((Entry { difference, record }, rest))
 }
 
 // A track of a bundle: its number, the offset of its end in the bundle, and its bytes.
@@ -37,22 +42,30 @@ pub struct Track<'a> {
     pub bytes: &'a [u8],
 }
 
-impl Track<'_> {
+impl<'a> Track<'a> {
     // Checks every record, and answers how many there are.
     pub fn check(&self) -> Result<usize, Fault>
         ensures { result ≡ counted (entries_of (piece_of self.now)) }
     {
-        let mut left = self.bytes;
-        let mut last = 0;
-        let mut record = 0;
-        while !left.is_empty() {
-            let span = self.span(record);
-            let (entry, rest) = read(span, last, left)?;
-            last += entry.difference;
-            left = rest;
-            record += 1;
+        let mut records = 0;
+        for entry in self.entries() {
+            entry?;
+            records += 1;
         }
-        Ok(record)
+        Ok(records)
+    }
+
+    // The entries in their order, each with its stamp, to the end or to the first fault.
+    pub fn entries(&self) -> Entries<'a>
+        ensures left { result.left ≡ self.now }
+        ensures read { result.read ≡ 0 }
+        ensures stamp { result.stamp ≡ 0 }
+    {
+        Entries {
+            left: *self,
+            read: 0,
+            stamp: 0,
+        }
     }
 
     // The stretch of the bundle that this track is, at a record of it.
@@ -67,4 +80,14 @@ impl Track<'_> {
             },
         }
     }
+}
+
+// What is left of a track, how many records were read of it, and the stamp of the last of them. A step
+// changes all three, so contracts name them; a model would only name them again.
+#[derive(Drop)]
+pub struct Entries<'a> {
+    pub(crate) left: Track<'a>,
+    pub(crate) read: usize,
+    pub(crate) stamp: u64,
+    ghost room: { read + length left.bytes.now < 2 ^ 64 },
 }

@@ -1,7 +1,7 @@
 // The kinds of cases.
 use anyhow::{Context, anyhow};
 use bundle::bundles::Bundle;
-use fault::{Part, Refusal, Span};
+use fault::{Part, Reader, Refusal};
 use std::alloc::Global;
 use std::fmt::Write;
 use std::fs;
@@ -9,7 +9,8 @@ use track::records::Record;
 use track::tracks::{Entry, Track};
 use track::{packing, tracks};
 
-// Whether the case of a line holds.
+// Whether the case of a line holds. The words are the tests' data: a match on them is plainer than a
+// table of functions.
 pub(crate) fn holds(rt: &HostRuntime, line: &str) -> anyhow::Result<bool> {
     let (way, rest) = line
         .split_once(' ')
@@ -41,14 +42,10 @@ fn lists(rt: &HostRuntime, name: &str) -> anyhow::Result<bool> {
 // The entries of a track that has no fault.
 fn entries<'a>(heap: Global, track: &Track<'a>) -> anyhow::Result<Vec<Entry<'a>>> {
     let mut all = Vec::new(heap);
-    let mut left = track.bytes;
-    let mut last = 0;
-    while !left.is_empty() {
-        let Ok((entry, rest)) = tracks::read(track.span(all.len()), last, left) else {
+    for entry in track.entries() {
+        let Ok((_, entry)) = entry else {
             return Err(anyhow!("a track that was checked has a fault"));
         };
-        last += entry.difference;
-        left = rest;
         all.push(entry)?;
     }
     Ok(all)
@@ -59,49 +56,40 @@ fn packs_again(heap: Global, bytes: &[u8]) -> anyhow::Result<bool> {
     let Ok(bundle) = Bundle::read(bytes) else {
         return Ok(true);
     };
-    for number in 0..bundle.track_count() {
-        if let Some(track) = bundle.track(number) {
-            let all = entries(heap, &track)?;
-            let mut out = vec![in heap; 0u8; track.bytes.len()]?;
-            let packed = packing::pack_track(&all, &mut out);
-            if packed != Ok(out.len()) || out.as_slice() != track.bytes {
-                return Ok(false);
-            }
+    for track in bundle.tracks() {
+        let all = entries(heap, track)?;
+        let mut out = vec![in heap; 0u8; track.bytes.len()]?;
+        let packed = packing::pack_track(&all, &mut out);
+        if packed != Ok(out.len()) || out.as_slice() != track.bytes {
+            return Ok(false);
         }
     }
     Ok(true)
 }
 
-// The three numbers that a line begins with.
-fn three_numbers(line: &str) -> anyhow::Result<(u64, u64, u64)> {
-    let (first, rest) = line.split_once(' ').context("a line has too few words")?;
-    let (second, rest) = rest.split_once(' ').context("a line has too few words")?;
-    let (third, _) = rest.split_once(' ').context("a line has too few words")?;
-    Ok((
-        first.parse::<u64>()?,
-        second.parse::<u64>()?,
-        third.parse::<u64>()?,
-    ))
+// The first number of a line, and what follows it.
+fn first_number(line: &str) -> anyhow::Result<(u64, &str)> {
+    let (word, rest) = line.split_once(' ').context("a line has too few words")?;
+    Ok((word.parse::<u64>()?, rest))
 }
 
 // Whether the lines of this track among the first of `text` have the stamps and kinds of its entries.
-fn matches_lines(text: &str, records: usize, number: usize, all: &[Entry]) -> anyhow::Result<bool> {
-    let mut at = 0usize;
-    let mut stamp = 0u64;
+fn matches_lines(text: &str, records: usize, track: &Track) -> anyhow::Result<bool> {
+    let mut entries = track.entries();
     for line in text.lines().take(records) {
-        let (wanted, track, kind) = three_numbers(line)?;
-        if track == number as u64 {
-            let Some(entry) = all.get(at) else {
+        let (wanted, rest) = first_number(line)?;
+        let (number, rest) = first_number(rest)?;
+        let (kind, _) = first_number(rest)?;
+        if number == u64::from(track.number) {
+            let Some(Ok((stamp, entry))) = entries.next() else {
                 return Ok(false);
             };
-            stamp = stamp.saturating_add(entry.difference);
             if wanted != stamp || kind != entry.record.kind().number() {
                 return Ok(false);
             }
-            at = at.saturating_add(1);
         }
     }
-    Ok(at == all.len())
+    Ok(entries.next().is_none())
 }
 
 fn runs(rt: &HostRuntime, name: &str) -> anyhow::Result<bool> {
@@ -111,23 +99,19 @@ fn runs(rt: &HostRuntime, name: &str) -> anyhow::Result<bool> {
     let Ok(bundle) = Bundle::read(&bytes) else {
         return Ok(false);
     };
-    Ok(same_records(rt.alloc(), &bundle, text.as_str())? && packs_again(rt.alloc(), &bytes)?)
+    Ok(same_records(&bundle, text.as_str())? && packs_again(rt.alloc(), &bytes)?)
 }
 
-// Whether the first lines of `text`, one for each record, are those of the bundle's tracks.
-fn same_records(heap: Global, bundle: &Bundle, text: &str) -> anyhow::Result<bool> {
+// Whether the first lines of `text`, one for each record, are those of the bundle's tracks. The
+// records are counted in a loop, since a `sum` would have to be bounded.
+fn same_records(bundle: &Bundle, text: &str) -> anyhow::Result<bool> {
     let mut records = 0usize;
-    for number in 0..bundle.track_count() {
-        if let Some(track) = bundle.track(number) {
-            records = records.saturating_add(entries(heap, &track)?.len());
-        }
+    for track in bundle.tracks() {
+        records = records.saturating_add(track.entries().count());
     }
-    for number in 0..bundle.track_count() {
-        if let Some(track) = bundle.track(number) {
-            let all = entries(heap, &track)?;
-            if !matches_lines(text, records, number, &all)? {
-                return Ok(false);
-            }
+    for track in bundle.tracks() {
+        if !matches_lines(text, records, track)? {
+            return Ok(false);
         }
     }
     Ok(true)
@@ -144,14 +128,9 @@ fn packs(rt: &HostRuntime, rest: &str) -> anyhow::Result<bool> {
     for byte in &out[0..len] {
         write!(shown, "{byte:02X}")?;
     }
-    let span = Span {
-        end: len,
-        part: Part::Header,
-    };
-    let Ok((again, left)) = number::read(span, &out[0..len]) else {
-        return Ok(false);
-    };
-    Ok(shown.as_str() == wanted && again == number && left.is_empty() && out[7] == 0xEE)
+    let mut reader = Reader::new(Part::Header, &out[..len]);
+    let again = number::read(&mut reader);
+    Ok(shown.as_str() == wanted && again == Ok(number) && reader.rest.is_empty() && out[7] == 0xEE)
 }
 
 fn is_unfit(rest: &str) -> anyhow::Result<bool> {
@@ -161,9 +140,7 @@ fn is_unfit(rest: &str) -> anyhow::Result<bool> {
 }
 
 fn is_short(rest: &str) -> anyhow::Result<bool> {
-    let (number, rest) = rest
-        .split_once(' ')
-        .context("a number, a length and the bytes needed")?;
+    let (number, rest) = first_number(rest)?;
     let (len, needed) = rest
         .split_once(' ')
         .context("a number, a length and the bytes needed")?;
@@ -173,11 +150,11 @@ fn is_short(rest: &str) -> anyhow::Result<bool> {
     if len > out.len() {
         return Ok(false);
     }
-    let refused = number::write(number.parse::<u64>()?, &mut out[0..len]);
+    let refused = number::write(number, &mut out[..len]);
     Ok(refused == Err(Refusal::Short { needed }) && out == [0xEE; 8])
 }
 
-// A record that may not be packed, or a tick.
+// A record that may not be packed, or a tick; its words are the tests' data too.
 fn refused_record<'a>(what: &str, long: &'a [u8]) -> Record<'a> {
     match what {
         "unknown kind" => Record::Unknown { kind: 1 },
@@ -191,7 +168,8 @@ fn refused_record<'a>(what: &str, long: &'a [u8]) -> Record<'a> {
     }
 }
 
-// Whether a record that may not be packed is refused, and leaves every byte.
+// Whether a record that may not be packed is refused, and leaves every byte. Its words are the tests'
+// data.
 fn is_refused(heap: Global, what: &str) -> anyhow::Result<bool> {
     let long = vec![in heap; b'a'; 60_001]?;
     let record = refused_record(what, &long);
@@ -209,9 +187,5 @@ fn is_refused(heap: Global, what: &str) -> anyhow::Result<bool> {
         },
         &mut out,
     );
-    let mut kept = true;
-    for byte in &out {
-        kept = kept && *byte == 0xEE;
-    }
-    Ok(refused == Err(Refusal::Unfit) && kept)
+    Ok(refused == Err(Refusal::Unfit) && out.iter().all(|byte| *byte == 0xEE))
 }

@@ -1,11 +1,7 @@
-use Rattle.std.proofs.Common.{◌≡◌, ◌+◌, ◌^◌, ◌<◌, length}
+use Rattle.std.proofs.Common.{◌≡◌, ℕ, ◌*◌, ◌/◌, ◌^◌, ◌<◌, get_or}
 use Rattle.number.specs.Numbers.{encode}
-use Rattle.number.specs.Packed.{splice}
 use Rattle.number.proofs.put.Given as goal
 
--- what is left of the number, written from here on, makes the whole
-abbrev pub invariant-loop-left : goal.invariant-loop-left
-invariant-loop-left l = (l.left < 2 ^ 42) × (l.next + length (encode l.left) ≡ length (encode l.n)) × (splice l.next (encode l.left) l.out ≡ splice 0 (encode l.n) l.initial.out)
-
-abbrev pub decreases-loop-left : goal.decreases-loop-left
-decreases-loop-left l = l.left
+-- the first i groups are written
+abbrev pub invariant-loop-i : goal.invariant-loop-i
+invariant-loop-i l = (l.left ≡ l.n / 2 ^ (l.i * 7)) × ((k : ℕ) → k < l.i → get_or l.out k 0 ≡ get_or (encode l.n) k 0)

@@ -1,12 +1,8 @@
-use Rattle.std.proofs.Common.{arith}
-use Rattle.track.proofs.ListPacking.{first_fits, measured_more, measured_end}
+use Rattle.track.proofs.ListPacking.{measured_first, measured_more}
 use Rattle.track.proofs.packing.track_len.Goals as goal
 
-pub returns-then-not-fits_after : goal.returns-then-not-fits_after
-returns-then-not-fits_after c all = c.if-not-fits_after.ensures (first_fits _ _ _ _ c.loop-entry-test.true (c.loop-entry.invariant.fit_back all)).0
+pub returns-in_err-len : goal.returns-in_err-len
+returns-in_err-len c = rw c.from_residual.ensures (λ all. c.in_err-len.ensures.is (measured_first _ _ _ _ c.loop-entry.invariant _ c.loop-entry-test.true all))
 
 pub loop-entry-preserved : goal.loop-entry-preserved
-loop-entry-preserved c = measured_more _ _ _ _ c.loop-entry-test.true _ _ c.loop-entry.invariant c.if-not-fits_after.ensures c.entry_len-len.ensures.is c.entry_len-len.ensures.bound
-
-pub returns : goal.returns
-returns c = measured_end _ _ _ (omega arith) _ c.loop-entry.invariant
+loop-entry-preserved c = measured_more _ _ _ _ c.loop-entry.invariant _ c.loop-entry-test.true _ c.in_ok-len.ensures.is.0 c.in_ok-len.ensures.is.1 c.in_ok-len.ensures.bound

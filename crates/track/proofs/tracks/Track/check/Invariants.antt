@@ -1,10 +1,8 @@
-use Rattle.std.proofs.Common.{List, length}
+use Rattle.std.proofs.Common.{◌≡◌, List, length}
 use Rattle.track.specs.Tracks.{Timed}
-use Rattle.track.proofs.TrackLaws.{Left}
+use Rattle.track.proofs.Walks.{Walked}
 use Rattle.track.proofs.tracks.Track.check.Given as goal
 
-abbrev pub invariant-loop-left : goal.invariant-loop-left
-invariant-loop-left l = (done : List Timed) × Left l.self.end l.self.number l.self.bytes.now done l.«record» l.last l.left
-
-abbrev pub decreases-loop-left : goal.decreases-loop-left
-decreases-loop-left l = length l.left
+abbrev pub invariant-loop-entry : goal.invariant-loop-entry
+invariant-loop-entry l =
+    (done : List Timed) × Walked l.self done l.entry-iterator × (l.records ≡ length done)
