@@ -165,7 +165,8 @@ fn cut<'a>(start: usize, lengths: &[u64], body: &'a [u8]) -> Tracks<'a>
     tracks
 }
 
-// Takes the lengths of `count` tracks off a reader, and cuts the tracks out of what follows.
+// Takes the lengths of `count` tracks off a reader, and cuts the tracks out of what follows. There is no
+// heap: the lengths stand in an array.
 fn read_tracks<'a>(reader: &mut Reader<'a>, count: usize) -> Result<Tracks<'a>, Fault>
     requires { count ≤ 8 }
     ensures { Says (λ ts. map piece_of (items ts)) (pieces_from reader.old.span count reader.old.rest.now) result }

@@ -43,7 +43,6 @@ impl<'a> Tracks<'a> {
 
     pub(crate) fn as_slice(&self) -> &[Track<'a>]
         ensures is { result.now ≡ take self.now.count self.now.all }
-        ensures few { length result.now ≤ 8 }
         ensures numbered { Numbered (length result.now) result.now }
     {
         &self.all[..self.count]

@@ -216,7 +216,7 @@ fn list_bundle(heap: Global, bytes: &[u8]) -> Result<String, Stop>
 }
 
 // The text that `list` prints for a bundle: the line of its one fault, or its header and the
-// records and count of each track.
+// records and count of each track. A fault is no error here: it is listed.
 #[tactic(auto, unfolding(crate::specs::Text::listing_text))]
 pub fn listing(heap: Global, bytes: &[u8]) -> Result<Vec<u8>, AllocError>
     ensures whole { IfOk result (λ v. v.items ≡ listing_text bytes.now) }

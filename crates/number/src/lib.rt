@@ -9,7 +9,8 @@ ghost use Rattle.number.specs.Packed.{Packed};
 
 use fault::{Fault, Place, Reader, Refusal};
 
-// Every number of a bundle is below this.
+// Every number of a bundle is below this. Numbers stay `u64` all the same: a type of their own would
+// ask more of those who pack.
 pub const NUMBER_END: u64 = 1 << 42;
 
 // The most groups of a number.

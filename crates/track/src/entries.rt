@@ -21,8 +21,8 @@ impl<'a> Iterator for Entries<'a> {
             span: self.left.span(self.read),
             rest: self.left.bytes,
         };
-        let entry = Entry::read(&mut reader, self.stamp);
-        match entry {
+        // Both ends move on, and so there is no `?`.
+        match Entry::read(&mut reader, self.stamp) {
             Ok(entry) => {
                 self.left.bytes = reader.rest;
                 self.read += 1;

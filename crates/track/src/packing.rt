@@ -75,7 +75,8 @@ trait Packable {
         ensures { Put (bytes self.now) out.old out.new result };
 }
 
-// Writes one after another, where there is room for all, and answers how many bytes they take.
+// Writes one after another, where there is room for all, and answers how many bytes they take, which
+// is also where the next is written.
 #[tactic(auto, using(number::proofs::Puts::put_room, number::proofs::Puts::put_turn))]
 fn put_all<T: Packable>(items: &[T], out: &mut [u8]) -> usize
     requires fits { AllByRecursion T.fits items.now }
@@ -105,7 +106,8 @@ impl Packable for u64 {
 
     ghost fits = { λ n. n < 2 ^ 42 };
 
-    // Nothing is refused here: the number is small enough, and there is room for it.
+    // Nothing is refused here: the number is small enough, and there is room for it. What writes
+    // without a test asks something of its caller, and so is not public.
     fn put(&self, out: &mut [u8]) -> usize {
         match number::write(*self, out) {
             Ok(len) => len,

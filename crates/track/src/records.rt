@@ -165,6 +165,7 @@ impl<'a> Record<'a> {
         }
     }
 
+    // The kind of a record. No `From`: `record.kind()` says what it is.
     pub fn kind(&self) -> Kind
         ensures { result ≡ (view self.now).kind }
     {

@@ -26,15 +26,15 @@ pub(crate) fn holds(rt: &HostRuntime, line: &str) -> anyhow::Result<bool> {
     }
 }
 
-fn bundle_of(rt: &HostRuntime, name: &str) -> anyhow::Result<Vec<u8>> {
-    let path = format!(in rt.alloc(); "{name}.bundle")?;
+// A file of a case.
+fn file(rt: &HostRuntime, name: &str, kind: &str) -> anyhow::Result<Vec<u8>> {
+    let path = format!(in rt.alloc(); "{name}.{kind}")?;
     Ok(fs::read(rt, path.as_str())?)
 }
 
 fn lists(rt: &HostRuntime, name: &str) -> anyhow::Result<bool> {
-    let bytes = bundle_of(rt, name)?;
-    let path = format!(in rt.alloc(); "{name}.list")?;
-    let wanted = fs::read(rt, path.as_str())?;
+    let bytes = file(rt, name, "bundle")?;
+    let wanted = file(rt, name, "list")?;
     let text = listing::listing(rt.alloc(), &bytes)?;
     Ok(text == wanted && packs_again(rt.alloc(), &bytes)?)
 }
@@ -93,9 +93,8 @@ fn matches_lines(text: &str, records: usize, track: &Track) -> anyhow::Result<bo
 }
 
 fn runs(rt: &HostRuntime, name: &str) -> anyhow::Result<bool> {
-    let bytes = bundle_of(rt, name)?;
-    let path = format!(in rt.alloc(); "{name}.out")?;
-    let text = fs::read_to_string(rt, path.as_str())?;
+    let bytes = file(rt, name, "bundle")?;
+    let text = String::from_utf8(file(rt, name, "out")?)?;
     let Ok(bundle) = Bundle::read(&bytes) else {
         return Ok(false);
     };
@@ -118,8 +117,7 @@ fn same_records(bundle: &Bundle, text: &str) -> anyhow::Result<bool> {
 }
 
 fn packs(rt: &HostRuntime, rest: &str) -> anyhow::Result<bool> {
-    let (number, wanted) = rest.split_once(' ').context("a number and its bytes")?;
-    let number = number.parse::<u64>()?;
+    let (number, wanted) = first_number(rest)?;
     let mut out = [0xEE; 8];
     let Ok(len) = number::write(number, &mut out) else {
         return Ok(false);
@@ -141,10 +139,8 @@ fn is_unfit(rest: &str) -> anyhow::Result<bool> {
 
 fn is_short(rest: &str) -> anyhow::Result<bool> {
     let (number, rest) = first_number(rest)?;
-    let (len, needed) = rest
-        .split_once(' ')
-        .context("a number, a length and the bytes needed")?;
-    let len = len.parse::<usize>()?;
+    let (len, needed) = first_number(rest)?;
+    let len = usize::try_from(len)?;
     let needed = needed.parse::<u128>()?;
     let mut out = [0xEE; 8];
     if len > out.len() {
