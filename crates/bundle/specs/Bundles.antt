@@ -10,7 +10,7 @@ use Rattle.bundle.specs.declared.bundles.PlatformKind.{PlatformKind}
 use Rattle.bundle.specs.declared.bundles.ClockKind.{ClockKind}
 use Rattle.bundle.specs.declared.bundles.Bundle.{Bundle}
 use Rattle.fault.specs.declared.Reader.{Reader}
-use Rattle.fault.specs.Faults.{Reads, next, place_of}
+use Rattle.fault.specs.Faults.{Reads, next, place_of, span_of}
 use Rattle.number.specs.Numbers.{number_at, encode}
 use Rattle.track.specs.Records.{numbers_at}
 use Rattle.bundle.specs.Items.{items}
@@ -69,7 +69,7 @@ header_at s bs =
     next (value_at s 0 0 r) (λ zero r. next (value_at s 1 8 r) (λ count r. tracks_at s platform clock count r)))))
 
 abbrev pub header_span : List ℕ → Span
-header_span bs = record { end = length bs; part = part.Header }
+header_span bs = span_of part.Header bs
 
 -- the header of a bundle of at most 60,000 bytes
 unfoldable pub header_of : List ℕ → Result Contents Fault

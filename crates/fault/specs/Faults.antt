@@ -67,9 +67,12 @@ abbrev pub next : {X Y : Type 0} → Reads X → (X → List ℕ → Result Y Fa
 next (Ok v) f = f v.0 v.1
 next (Err e) f = Err e
 
--- a reader of all the bytes of a part that begins at offset 0
+-- the stretch of all the bytes of a part that begins at offset 0, and a reader of them
+abbrev pub span_of : Part → List ℕ → Span
+span_of p bs = record { end = length bs; part = p }
+
 abbrev pub reader_of : Part → Bor (List ℕ) → Reader
-reader_of p bytes = record { span = record { end = length bytes.now; part = p }; rest = bytes }
+reader_of p bytes = record { span = span_of p bytes.now; rest = bytes }
 
 -- what the rules say, seen as view sees it, or the same fault
 abbrev pub Says : {X Y E : Type 0} → (X → Y) → Result Y E → Result X E → Type 0

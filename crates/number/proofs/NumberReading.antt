@@ -90,5 +90,5 @@ module _ (bs : List ℕ) where
   pub after_group : (i : ℕ) → between (i + 1) (length rest) rest ≡ drop (i + 1 + 1) bs
   after_group i = grind (arith, common_steps, drop-drop, between_to_end, after_first)
 
-  pub group_at : (m i : ℕ) → i < length (take m rest) → (i + 1 < length bs) × (i < m) × (get_or (take m rest) i 0 ≡ get_or bs (i + 1) 0)
-  group_at m i h = grind (arith, get_or-take, get_or-drop, after_first, length_others)
+  pub other_at : (m i : ℕ) → i < length (take m rest) → (i + 1 < length bs) × (i < m) × (get_or (take m rest) i 0 ≡ get_or bs (i + 1) 0)
+  other_at m i h = grind (arith, get_or-take, get_or-drop, after_first, length_others)

@@ -40,7 +40,7 @@ impl Flaw {
 // Takes the groups of a number off `bytes`. The loop over the groups after the first goes to the
 // end of the slice or to the sixth: a loop of six turns would be unrolled, and then be too large
 // to be inlined where numbers are read.
-#[tactic(auto, using(crate::proofs::NumberReading::kept_zero, crate::proofs::NumberReading::kept_out, crate::proofs::NumberReading::group_at, crate::proofs::NumberReading::length_others))]
+#[tactic(auto, using(crate::proofs::NumberReading::kept_zero, crate::proofs::NumberReading::kept_out, crate::proofs::NumberReading::other_at, crate::proofs::NumberReading::length_others))]
 fn read_groups(bytes: &[u8]) -> Result<(u64, &[u8]), Flaw>
     ensures is { Says (λ v. (v.0, v.1.now)) (decode bytes.now) result }
     ensures bound { IfOk result (λ v. v.0 < 2 ^ 42) }

@@ -2,8 +2,19 @@
 use Rattle.std.specs.Prelude.{◌≡◌, ℕ, ◌+◌, ◌<◌, [], length, Some, None, Option, Ok, Err, Result}
 use Rattle.fault.specs.declared.Fault.{Fault}
 use Rattle.track.specs.declared.tracks.Entry.{Entry}
+use Rattle.track.specs.declared.tracks.Track.{Track}
 use Rattle.track.specs.declared.tracks.Entries.{Entries}
 use Rattle.track.specs.Tracks.{view_entry, entry_at, record_span, Taken}
+
+-- how many bytes are left
+abbrev pub unread : Entries → ℕ
+unread s = length s.left.bytes.now
+
+-- nothing of the track was given yet
+pub record Begins (t : Track) (s : Entries) : Type 0 where
+  pub left : s.left ≡ t
+  pub read : s.read ≡ 0
+  pub stamp : s.stamp ≡ 0
 
 -- none at the end; else the next entry, with its stamp, or its fault, and then nothing is left
 abbrev pub Steps : Entries → Option (Result (ℕ × Entry) Fault) → Entries → Type 0

@@ -1,17 +1,29 @@
 // The entries of a track, one after another.
-ghost use Rattle.std.specs.Prelude.{length};
 ghost use Rattle.std.specs.Iterator.{at_most};
-ghost use Rattle.track.specs.Stepping.{Steps};
+ghost use Rattle.track.specs.Stepping.{Begins, Steps, unread};
 
-use crate::tracks::{Entries, Entry};
+use crate::tracks::{Entries, Entry, Track};
 use fault::{Fault, Reader};
+
+impl<'a> Track<'a> {
+    // The entries in their order, each with its stamp, to the end or to the first fault.
+    pub fn entries(&self) -> Entries<'a>
+        ensures { Begins self.now result }
+    {
+        Entries {
+            left: *self,
+            read: 0,
+            stamp: 0,
+        }
+    }
+}
 
 impl<'a> Iterator for Entries<'a> {
     type Item = Result<(u64, Entry<'a>), Fault>;
 
     ghost next_gives = { Steps };
 
-    ghost remaining = { λ s. at_most (length s.left.bytes.now) };
+    ghost remaining = { λ s. at_most (unread s) };
 
     fn next(&mut self) -> Option<Result<(u64, Entry<'a>), Fault>> {
         if self.left.bytes.is_empty() {

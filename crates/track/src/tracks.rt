@@ -55,19 +55,6 @@ impl<'a> Track<'a> {
         Ok(records)
     }
 
-    // The entries in their order, each with its stamp, to the end or to the first fault.
-    pub fn entries(&self) -> Entries<'a>
-        ensures left { result.left ≡ self.now }
-        ensures read { result.read ≡ 0 }
-        ensures stamp { result.stamp ≡ 0 }
-    {
-        Entries {
-            left: *self,
-            read: 0,
-            stamp: 0,
-        }
-    }
-
     // The stretch of the bundle that this track is, at a record of it.
     pub fn span(&self, record: usize) -> Span
         ensures { result ≡ record_span self.now.end self.now.number «record» }
@@ -83,7 +70,7 @@ impl<'a> Track<'a> {
 }
 
 // What is left of a track, how many records were read of it, and the stamp of the last of them. A step
-// changes all three, so contracts name them; a model would only name them again.
+// changes all three; what it gives is said in entries.rt, by definitions that name this struct.
 #[derive(Drop)]
 pub struct Entries<'a> {
     pub(crate) left: Track<'a>,

@@ -1,6 +1,6 @@
 use Rattle.std.proofs.Common.{◌+◌, ◌<◌, ◌∙◌, arith}
 use Rattle.number.specs.Numbers.{Bytes}
-use Rattle.number.proofs.NumberReading.{kept_none, kept_end, kept_more, kept_last, first_group, next_group, done, after_first, after_group, group_at}
+use Rattle.number.proofs.NumberReading.{kept_none, kept_end, kept_more, kept_last, first_group, next_group, done, after_first, after_group, other_at}
 use Rattle.number.proofs.read_groups.Goals as goal
 
 pub returns-in_default-clause-is : goal.returns-in_default-clause-is
@@ -19,7 +19,7 @@ loop-i-init c = kept_more _ 0 0 (kept_none _) (omega arith) (omega arith) _ (fir
 pub returns-then-group-lt128 : goal.returns-then-group-lt128
 returns-then-group-lt128 c =
     let by : Bytes c.args.bytes.now = λ i. omega (arith, c.type_inv.bytes i) in
-    let g = group_at c.args.bytes.now _ c.loop-i.i c.loop-i-test.true in
+    let g = other_at c.args.bytes.now _ c.loop-i.i c.loop-i-test.true in
     let few : c.loop-i.i + 1 < 6 = omega (arith, g.1) in
     let value = next_group _ _ _ _ few c.loop-i.invariant.below c.from-in-loop-i.ensures in
     let d =
@@ -29,6 +29,6 @@ returns-then-group-lt128 c =
 
 pub loop-i-preserved : goal.loop-i-preserved
 loop-i-preserved c =
-    let g = group_at c.args.bytes.now _ c.loop-i.i c.loop-i-test.true in
+    let g = other_at c.args.bytes.now _ c.loop-i.i c.loop-i-test.true in
     let few : c.loop-i.i + 1 < 6 = omega (arith, g.1) in
     kept_more _ _ _ c.loop-i.invariant few g.0 _ (rw (← g.2) (next_group _ _ _ _ few c.loop-i.invariant.below c.from-in-loop-i.ensures)) (omega (arith, g.2, c.if-group-lt128.false)) (omega (arith, c.type_inv.bytes (c.loop-i.i + 1)))
