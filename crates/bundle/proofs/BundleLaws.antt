@@ -62,7 +62,7 @@ packed_bundle_is_accepted platform clock ess p c n fit h =
 
 -- in a bundle with no fault, no track has one
 
-faultless_each : (ps : List Piece) (c d : Contents) → faultless ps c ≡ Ok d → (c ≡ d) × AllByRecursion (λ p. (es : List Timed) × (entries_of p ≡ Ok es)) ps
+pub faultless_each : (ps : List Piece) (c d : Contents) → faultless ps c ≡ Ok d → (c ≡ d) × AllByRecursion (λ p. (es : List Timed) × (entries_of p ≡ Ok es)) ps
 faultless_each [] c d e = grind arith
 faultless_each (p ∷ ps) c d e = grind (arith, faultless_each ps c d)
 

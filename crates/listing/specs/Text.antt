@@ -28,13 +28,13 @@ plain b = not (nat_lt b 32 || (nat_lt 126 b || (b == 34 || b == 92)))
 abbrev pub shown : ℕ → List ℕ
 shown b = cond (plain b) (b ∷ []) (92 ∷ 120 ∷ hex_digit (b / 16) ∷ hex_digit (b % 16) ∷ [])
 
--- a name in quotes
+-- a name in quotes, after a space
 abbrev pub name_text : List ℕ → List ℕ
-name_text name = 34 ∷ (flat_map shown name ++ (34 ∷ []))
+name_text name = (32 ∷ 34 ∷ []) ++ (flat_map shown name ++ (34 ∷ []))
 
 -- the fields, and in place of a name's length the name
 abbrev pub fields_text : Seen → List ℕ
-fields_text v = cond (shape v.kind).texts (flat_map field_text (take 2 v.fields) ++ (32 ∷ name_text v.text)) (flat_map field_text v.fields)
+fields_text v = cond (shape v.kind).texts (flat_map field_text (take 2 v.fields) ++ name_text v.text) (flat_map field_text v.fields)
 
 -- stamp, track, kind by name, fields
 abbrev pub line_words : ℕ → ℕ → Seen → List ℕ

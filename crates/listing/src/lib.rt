@@ -1,20 +1,25 @@
 // The text that `list` prints: a bundle's one fault, or its records and what was counted.
 #![tactic(auto)]
 
-ghost use Rattle.std.specs.Prelude.{◌≡◌, IfOk, Some, Err};
+ghost use Rattle.std.specs.Prelude.{◌≡◌, ◌<◌, ◌≤◌, length, take, IfOk, Some, Err};
+ghost use Rattle.std.specs.List.{flat_map};
+ghost use Rattle.std.specs.Str.{IsAscii};
 ghost use Rattle.std.specs.String.{string_bytes};
 ghost use Rattle.fault.specs.declared.Fault.{Fault as FaultOf};
+ghost use Rattle.fault.specs.Faults.{field_text};
 ghost use Rattle.track.specs.Records.{view};
 ghost use Rattle.track.specs.Tracks.{piece_of};
 ghost use Rattle.bundle.specs.Bundles.{contents, bundle_of};
 ghost use Rattle.listing.specs.declared.Stop.TheVariants.{Faulty, NoMemory};
 ghost use Rattle.listing.specs.Listed.{Listed, AllListed, Whole};
-ghost use Rattle.listing.specs.Text.{fault_text, plain, shown, name_text, fields_text, line_words, count_words, head_words, listing_text};
+ghost use Rattle.listing.specs.Text.{fault_text, plain, hex_digit, shown, name_text, fields_text, line_words, count_words, head_words, listing_text};
 
 use bundle::bundles::Bundle;
 use fault::Fault;
 use std::alloc::{AllocError, Global};
-use std::fmt;
+use std::fmt::Display;
+use std::{fmt, str};
+use text::Decimal;
 use track::records::Record;
 use track::tracks::Track;
 
@@ -48,25 +53,41 @@ fn is_plain(byte: u8) -> bool
     matches!(byte, b' '..=b'~') && !matches!(byte, b'"' | b'\\')
 }
 
-// A byte of a name: itself, or its hexadecimal digits where it would not be seen.
-#[derive(Clone, Copy)]
-struct Shown(u8);
-
-impl fmt::Display for Shown {
-    ghost output = { λ s. Some (shown s.0) };
-
-    #[tactic(auto, using(std::proofs::lemmas::Fmt::hex_byte))]
-    fn fmt<W: fmt::Write>(&self, f: &mut fmt::Formatter<W>) -> fmt::Result {
-        let byte = self.0;
-        if is_plain(byte) {
-            f.write_char(char::from(byte))
-        } else {
-            write!(f, "\\x{byte:02X}")
-        }
-    }
+// A hexadecimal digit.
+fn hex_digit(n: u8) -> u8
+    requires { n < 16 }
+    ensures { result ≡ hex_digit n }
+{
+    if n < 10 { b'0' + n } else { b'A' + (n - 10) }
 }
 
-// A name in quotes.
+// How many bytes of a name are turned into text at once: a call of the writer for each byte takes four
+// times as long.
+const PIECE: usize = 32;
+
+// The text of a piece of a name: each byte itself, or its hexadecimal digits where it would not be seen.
+// Answers how much of `text` it takes.
+fn show(piece: &[u8], text: &mut [u8; 4 * PIECE]) -> usize
+    requires { length piece.now ≤ 32 }
+    ensures bound { result ≤ 128 }
+    ensures is { take result text.new ≡ flat_map shown piece.now }
+    ensures ascii { IsAscii (take result text.new) }
+{
+    let mut len = 0;
+    for byte in piece {
+        if is_plain(*byte) {
+            text[len] = *byte;
+            len += 1;
+        } else {
+            let digits = [b'\\', b'x', hex_digit(*byte / 16), hex_digit(*byte % 16)];
+            text[len..len + 4].copy_from_slice(&digits);
+            len += 4;
+        }
+    }
+    len
+}
+
+// A name in quotes, after a space.
 #[derive(Clone, Copy)]
 struct Name<'a>(&'a [u8]);
 
@@ -74,11 +95,33 @@ impl fmt::Display for Name<'_> {
     ghost output = { λ n. Some (name_text n.0.now) };
 
     fn fmt<W: fmt::Write>(&self, f: &mut fmt::Formatter<W>) -> fmt::Result {
-        f.write_str("\"")?;
-        for byte in self.0 {
-            write!(f, "{}", Shown(*byte))?;
+        f.write_str(" \"")?;
+        let mut text = [0; 4 * PIECE];
+        let mut rest = self.0;
+        while !rest.is_empty() {
+            let (piece, others) = rest.split_at(rest.len().min(PIECE));
+            let len = show(piece, &mut text);
+            let Ok(shown) = str::from_utf8(&text[..len]) else {
+                unreachable()
+            };
+            f.write_str(shown)?;
+            rest = others;
         }
         f.write_str("\"")
+    }
+}
+
+// A number after a space. What makes up a line calls `fmt` of its parts: a `write!` for each of them
+// saves and restores the formatter's options, and takes a fifth longer in all.
+#[derive(Clone, Copy)]
+struct Field(u64);
+
+impl fmt::Display for Field {
+    ghost output = { λ n. Some (field_text n.0) };
+
+    fn fmt<W: fmt::Write>(&self, f: &mut fmt::Formatter<W>) -> fmt::Result {
+        f.write_str(" ")?;
+        Decimal(self.0).fmt(f)
     }
 }
 
@@ -95,7 +138,11 @@ impl fmt::Display for Fields<'_> {
                 number,
                 wake_hold,
                 name,
-            } => write!(f, " {number} {wake_hold} {}", Name(name)),
+            } => {
+                Field(number).fmt(f)?;
+                Field(wake_hold).fmt(f)?;
+                Name(name).fmt(f)
+            }
             Record::Event {
                 number: first,
                 millis: second,
@@ -103,11 +150,14 @@ impl fmt::Display for Fields<'_> {
             | Record::Load {
                 cause: first,
                 status: second,
-            } => write!(f, " {first} {second}"),
+            } => {
+                Field(first).fmt(f)?;
+                Field(second).fmt(f)
+            }
             Record::Stay { number }
             | Record::Relax { number }
             | Record::Write { sleep: number }
-            | Record::Autosleep { sleep: number } => write!(f, " {number}"),
+            | Record::Autosleep { sleep: number } => Field(number).fmt(f),
             Record::Tick | Record::Read | Record::Step | Record::Round | Record::Unknown { .. } =>
                 Ok(()),
         }
@@ -126,12 +176,11 @@ impl fmt::Display for Line<'_> {
     ghost output = { λ l. Some (line_words l.stamp l.track (view l.«record».now)) };
 
     fn fmt<W: fmt::Write>(&self, f: &mut fmt::Formatter<W>) -> fmt::Result {
-        let Line {
-            stamp,
-            track,
-            record,
-        } = *self;
-        write!(f, "{stamp} {track} {}{}", record.kind(), Fields(record))
+        Decimal(self.stamp).fmt(f)?;
+        Field(u64::from(self.track)).fmt(f)?;
+        f.write_str(" ")?;
+        self.record.kind().fmt(f)?;
+        Fields(self.record).fmt(f)
     }
 }
 

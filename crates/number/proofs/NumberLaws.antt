@@ -1,10 +1,12 @@
 -- The laws of `encode` and `decode`.
-use Rattle.std.proofs.Common.{◌≡◌, ℕ, zero, suc, ◌+◌, ◌-◌, ◌*◌, ◌/◌, ◌%◌, ◌^◌, ◌<◌, ◌≤◌, min, max, List, [], ◌∷◌, ◌++◌, length, get_or, Ok, ap, ◌∙◌, pow-suc, ⊎_elim, arith, rules}
+use Rattle.std.proofs.Common.{◌≡◌, ℕ, zero, suc, ◌+◌, ◌-◌, ◌*◌, ◌/◌, ◌%◌, ◌^◌, ◌<◌, ◌≤◌, min, max, List, [], ◌∷◌, ◌++◌, length, get_or, drop, set, Ok, true, refl, ap, ◌∙◌, ◌==◌, pow-suc, ⊎_elim, arith, rules}
 use Rattle.std.proofs.Math.Nat.{one-le-pow}
 use Rattle.std.proofs.Math.Pow.{pow_mono}
-use Rattle.std.proofs.lemmas.Bool.{cases_lt}
+use Rattle.std.proofs.lemmas.Bool.{cases_lt, agree_below_at}
 use Rattle.std.proofs.lemmas.List.{length-append}
-use Rattle.std.proofs.lemmas.Nat.{div_below, pow-add, shr-shr}
+use Rattle.std.specs.Int.Bits.{bit_or, or_add_and}
+use Rattle.std.proofs.lemmas.Nat.{and_mask, div_below, pow-add, shr-shr}
+use Rattle.number.specs.declared.TheConstants.{GROUPS}
 use Rattle.number.specs.Numbers.{Got, above, decode_in, encode_in, decode, encode, Bytes, NumberReadBack, NumberOnePacking, NumberExamples}
 
 -- more groups than needed change nothing
@@ -20,6 +22,11 @@ short_in (suc k) n = grind (arith, short_in k (n / 128))
 pub encode_one : (n : ℕ) → n < 128 → encode n ≡ n ∷ []
 unfolding encode
 encode_one n h = grind arith
+
+-- a number of one group is put into a slice
+pub put_one : (n : ℕ) (bs : List ℕ) → n < 128 → 0 < length bs → set bs 0 n ≡ encode n ++ drop 1 bs
+put_one n [] h some = grind arith
+put_one n (b ∷ bs) h some = grind (arith, encode_one)
 
 pub encode_more : (n : ℕ) → n < 2 ^ 42 → 128 ≤ n → encode n ≡ (n % 128 + 128) ∷ encode (n / 128)
 unfolding encode
@@ -73,6 +80,21 @@ pub length_encode : (n k : ℕ) → 2 ^ k ≤ max n 1 → max n 1 < 2 * 2 ^ k �
 unfolding encode
 length_encode n k low high = length_in 5 n k low (omega arith)
 
+pub odd_some : (n : ℕ) → 0 < bit_or n 1
+odd_some n = omega (arith, or_add_and n 1, and_mask n 1)
+
+-- the highest bit of n, or of 1 where n has none
+top_bit : (n k : ℕ) → 2 ^ k ≤ bit_or n 1 → bit_or n 1 < 2 * 2 ^ k → (2 ^ k ≤ max n 1) × (max n 1 < 2 * 2 ^ k)
+top_bit n zero low high = omega (arith, or_add_and n 1, and_mask n 1)
+top_bit n (suc k) low high = omega (arith, or_add_and n 1, and_mask n 1, pow-suc 2 k)
+
+-- the table of lengths
+pub groups_at : (n k : ℕ) → k < 64 → 2 ^ k ≤ bit_or n 1 → bit_or n 1 < 2 * 2 ^ k → (get_or GROUPS (63 - k) 0 ≡ length (encode n)) × (get_or GROUPS (63 - k) 0 ≤ 6)
+groups_at n k lt low high =
+    let row = agree_below_at (λ i. get_or GROUPS (63 - i) 0 == min (i / 7 + 1) 6) (λ _. true) 64 k refl lt in
+    let top = top_bit n k low high in
+    grind (arith, length_encode n k top.0 top.1, row)
+
 -- what is left of n after one group more
 pub next_left : (i n : ℕ) → n / 2 ^ (i * 7) / 128 ≡ n / 2 ^ ((i + 1) * 7)
 next_left i n = shr-shr n (i * 7) 7 ∙ ap (λ k. n / 2 ^ k) (omega arith)
@@ -81,3 +103,12 @@ next_left i n = shr-shr n (i * 7) 7 ∙ ap (λ k. n / 2 ^ k) (omega arith)
 pub group_at : (i n : ℕ) → n < 2 ^ 42 → i < length (encode n) → (i + 1 < length (encode n) → get_or (encode n) i 0 ≡ n / 2 ^ (i * 7) % 128 + 128) × (length (encode n) ≤ i + 1 → get_or (encode n) i 0 ≡ n / 2 ^ (i * 7) % 128)
 group_at zero n h lt = grind (arith, encode_one, encode_more, encode_some)
 group_at (suc i) n h lt = grind (arith, encode_one, encode_more, shr-shr n 7 (i * 7), group_at i (n / 128))
+
+-- what is left of n for the last group
+pub last_left : (i n : ℕ) → n < 2 ^ 42 → length (encode n) ≤ i + 1 → n / 2 ^ (i * 7) < 128
+last_left zero n h short = grind (arith, encode_more, encode_some)
+last_left (suc i) n h short = grind (arith, encode_one, encode_more, shr-shr n 7 (i * 7), last_left i (n / 128))
+
+pub few_left : (i n : ℕ) → n < 2 ^ 42 → i < length (encode n) → n / 2 ^ (i * 7) < 128 → length (encode n) ≡ i + 1
+few_left zero n h lt few = grind (arith, encode_one)
+few_left (suc i) n h lt few = grind (arith, encode_one, encode_more, shr-shr n 7 (i * 7), few_left i (n / 128))

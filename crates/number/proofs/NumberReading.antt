@@ -23,7 +23,7 @@ pub record Kept (bs : List ℕ) (i v : ℕ) : Type 0 where
 next_power : (i : ℕ) → 2 ^ ((i + 1) * 7) ≡ 2 ^ (i * 7) * 128
 next_power i = ap (λ k. 2 ^ k) (omega arith) ∙ pow-add 2 (i * 7) 7
 
-spent : (k : ℕ) (bs : List ℕ) → k ≡ 0 → decode_in k bs ≡ Err TooManyGroups
+pub spent : (k : ℕ) (bs : List ℕ) → k ≡ 0 → decode_in k bs ≡ Err TooManyGroups
 spent k [] e = search rules
 spent k (b ∷ bs) e = search rules
 

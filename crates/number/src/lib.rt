@@ -91,15 +91,22 @@ pub fn read(reader: &mut Reader) -> Result<u64, Fault>
     }
 }
 
-// How many bytes `n` takes, one for each seven bits; of a number of 2^42 or more, which is not
-// packed, six.
-#[tactic(auto, using(crate::proofs::NumberLaws::length_encode))]
+// How many groups a number takes, by the zeros before its highest bit: one for each seven bits, and
+// six from 2^42 on, where it is not packed. A table of the type that is asked for: a division takes
+// more time, and so does a test where short and long numbers stand mixed.
+const GROUPS: [usize; 64] = [
+    6, 6, 6, 6, 6, 6, 6, 6, 6, 6, 6, 6, 6, 6, 6, 6, 6, 6, 6, 6, 6, 6, 6, 6, 6, 6, 6, 6, 6, 5, 5, 5,
+    5, 5, 5, 5, 4, 4, 4, 4, 4, 4, 4, 3, 3, 3, 3, 3, 3, 3, 2, 2, 2, 2, 2, 2, 2, 1, 1, 1, 1, 1, 1, 1,
+];
+
+// How many bytes `n` takes; of a number of 2^42 or more, which is not packed, six.
+#[tactic(auto, using(crate::proofs::NumberLaws::groups_at))]
 pub fn packed_len(n: u64) -> usize
     ensures is { result ≡ length (encode n) }
     ensures bound { result ≤ 6 }
 {
-    let groups = n.max(1).ilog2() as usize / 7 + 1;
-    groups.min(GROUP_LIMIT)
+    let zeros = 63 - (n | 1).ilog2() as usize;
+    GROUPS[zeros]
 }
 
 // Writes `n` into a slice of just the bytes that it takes.
@@ -108,21 +115,29 @@ fn put(n: u64, out: &mut [u8])
     requires room { length out.old ≡ length (encode n) }
     ensures { out.new ≡ encode n }
 {
-    let len = out.len();
     let mut left = n;
-    for (i, byte) in out.iter_mut().enumerate() {
-        let group = (left % 128) as u8;
-        *byte = if i + 1 < len { group + 128 } else { group };
+    for byte in out.iter_mut() {
+        if left < 128 {
+            *byte = left as u8;
+            return;
+        }
+        *byte = (left % 128) as u8 + 128;
         left /= 128;
     }
 }
 
-// Packs `n` at the start of `out`, and answers how many bytes it takes.
-#[tactic(auto, using(crate::proofs::NumberLaws::number_read_back))]
+// Packs `n` at the start of `out`, and answers how many bytes it takes. Most numbers have one
+// group: these take the short way.
+#[tactic(auto, using(crate::proofs::NumberLaws::number_read_back, crate::proofs::NumberLaws::encode_one, crate::proofs::NumberLaws::put_one))]
 pub fn write(n: u64, out: &mut [u8]) -> Result<usize, Refusal>
     ensures packed { Packed (n < 2 ^ 42) (encode n) out.old out.new result }
     ensures read_back { IfOk result (λ k. decode out.new ≡ Ok (n, drop k out.old)) }
 {
+    if n < 128 {
+        fault::room(Some(1), out)?;
+        out[0] = n as u8;
+        return Ok(1);
+    }
     let len = packed_len(n);
     fault::room((n < NUMBER_END).then_some(len as u128), out)?;
     put(n, &mut out[..len]);

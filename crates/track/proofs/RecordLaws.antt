@@ -24,7 +24,7 @@ numbers_back s (n ∷ ns) rest h = grind (arith, append_assoc, number_then, numb
 text_back : (s : Span) (t rest : List ℕ) → text_at s (length t) (t ++ rest) ≡ Ok (t, rest)
 text_back s t rest = grind (arith, length-append, take_at, drop_at)
 
-small_kind : (k : Kind) → (shape k).known ≡ true → (shape k).number < 2 ^ 42
+pub small_kind : (k : Kind) → (shape k).known ≡ true → (shape k).number < 2 ^ 42
 small_kind k h = grind arith
 
 kind_back : (k : Kind) → (shape k).known ≡ true → kind_of (shape k).number ≡ k

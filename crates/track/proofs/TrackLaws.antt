@@ -53,13 +53,15 @@ stamp_push : (last : ℕ) (es : List Timed) (e : Timed) → stamp_after last (es
 stamp_push last [] e = refl
 stamp_push last (x ∷ es) e = stamp_push (last + x.difference) es e
 
--- of the track bs the records done are read, the last with the stamp last, record i is the next, and rest is unread
+-- of the track bs the records done are read, i of them, the last with the stamp last, and rest is unread
 pub record Left (end track : ℕ) (bs : List ℕ) (done : List Timed) (i last : ℕ) (rest : List ℕ) : Type 0 where
   pub fuel : ℕ
   pub enough : length rest ≤ fuel
   pub is : track_of end track bs ≡ before done (track_in end track fuel i last rest)
+  pub count : i ≡ length done
   pub stamp : last ≡ stamp_after 0 done
-  pub few : length done + length rest ≤ length bs
+  pub within : last ≤ limit
+  pub few : i + length rest ≤ length bs
 
 pub left_none : (end track : ℕ) (bs : List ℕ) → Left end track bs [] 0 0 bs
 unfolding track_of
@@ -91,8 +93,10 @@ module _ (end track i last : ℕ) where
           fuel = m.0;
           enough = grind arith;
           is = grind (arith, before_push);
+          count = grind (arith, l.count, length-append);
           stamp = grind (arith, stamp_push);
-          few = grind (arith, length-append);
+          within = t.within;
+          few = grind arith;
         }
 
     pub left_stop : (f : Fault) → 0 < length rest → entry_at (record_span end track i) last rest ≡ Err f → track_of end track bs ≡ Err f

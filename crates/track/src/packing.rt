@@ -1,5 +1,5 @@
 // Packing: one record after a last stamp, or a list of records as a track.
-ghost use Rattle.std.specs.Prelude.{◌≡◌, ℕ, ◌+◌, ◌*◌, ◌^◌, ◌<◌, ◌≤◌, ◌↔◌, IsTrue, ⊤, List, map, length, take, drop, IfSome, IfOk, Ok};
+ghost use Rattle.std.specs.Prelude.{◌≡◌, ℕ, ◌+◌, ◌*◌, ◌^◌, ◌<◌, ◌≤◌, ⊤, List, map, length, take, drop, IfSome, IfOk, Ok};
 ghost use Rattle.std.specs.List.{flat_map, AllByRecursion};
 ghost use Rattle.fault.specs.declared.Span.{Span as Stretch};
 ghost use Rattle.number.specs.Numbers.{encode};
@@ -14,43 +14,43 @@ use fault::Refusal;
 // The longest name that is packed, in bytes.
 pub const NAME_LIMIT: usize = 60_000;
 
-// Whether each number may be packed.
-#[tactic(auto, using(std::proofs::lemmas::List::Elements::recursion_from_All))]
-fn all_small(ns: &[u64]) -> bool
-    ensures { IsTrue result ↔ AllByRecursion (λ n. n < 2 ^ 42) ns.now }
-{
-    ns.iter().all(|n| *n < number::NUMBER_END)
-}
-
-// How many bytes the numbers take, one after another.
-fn packed_len_all(ns: &[u64]) -> u128
+// How many bytes the numbers take, one after another, or none where one of them may not be packed.
+fn packed_len_all(ns: &[u64]) -> Option<usize>
     requires { length ns.now ≤ 4 }
-    ensures is { result ≡ length (flat_map encode ns.now) }
-    ensures bound { result ≤ 24 }
+    ensures is { Needs (AllByRecursion (λ n. n < 2 ^ 42) ns.now) (flat_map encode ns.now) result }
+    ensures bound { IfSome result (λ k. k ≤ 24) }
 {
-    ns.iter().map(|n| number::packed_len(*n) as u128).sum()
+    let mut len = 0;
+    for n in ns {
+        if *n >= number::NUMBER_END {
+            return None;
+        }
+        len += number::packed_len(*n);
+    }
+    Some(len)
 }
 
 impl Record<'_> {
     // How many bytes a record takes, or none where it may not be packed: that needs a known kind,
     // numbers below 2^42 and a name within its limit.
-    fn packed_len(&self) -> Option<u128>
+    fn packed_len(&self) -> Option<usize>
         ensures is { Needs (Fits (view self.now)) (record_bytes (view self.now)) result }
         ensures bound { IfSome result (λ k. k ≤ 60024) }
     {
         if let Kind::Unknown(_) = self.kind() {
             return None;
         }
-        let numbers = self.numbers();
         let text = self.text();
-        if !all_small(&numbers) || text.len() > NAME_LIMIT {
+        if text.len() > NAME_LIMIT {
             return None;
         }
-        Some(packed_len_all(&numbers) + text.len() as u128)
+        Some(packed_len_all(&self.numbers())? + text.len())
     }
 }
 
 // How many bytes an entry takes after the stamp `last`, or none where it may not be packed there.
+// Inlined, so that the answer does not go through memory.
+#[inline(always)]
 fn entry_len(last: u64, entry: &Entry) -> Option<u128>
     ensures is { Needs (FitsAfter last (view_entry entry.now)) (entry_bytes (view_entry entry.now)) result }
     ensures bound { IfSome result (λ k. k ≤ 60030) }
@@ -59,7 +59,7 @@ fn entry_len(last: u64, entry: &Entry) -> Option<u128>
         return None;
     }
     let record = entry.record.packed_len()?;
-    Some(number::packed_len(entry.difference) as u128 + record)
+    Some((number::packed_len(entry.difference) + record) as u128)
 }
 
 // What is packed as bytes of its own.

@@ -130,7 +130,8 @@ pub enum Record<'a> {
 }
 
 impl<'a> Record<'a> {
-    // Takes a kind and its fields off a reader.
+    // Takes a kind and its fields off a reader. In line for `Entries::next`.
+    #[inline(always)]
     pub(crate) fn read(reader: &mut Reader<'a>) -> Result<Record<'a>, Fault>
         ensures { Given view record_at reader.old reader.new result }
     {
@@ -185,7 +186,9 @@ impl<'a> Record<'a> {
         }
     }
 
-    // The numbers of a record in the order of the format, the kind's first.
+    // The numbers of a record in the order of the format, the kind's first. Inlined, so that the list
+    // is built where it is used and not copied there.
+    #[inline(always)]
     pub(crate) fn numbers(&self) -> ArrayVec<u64, 4>
         ensures { result.items ≡ (shape (view self.now).kind).number ∷ (view self.now).fields }
     {

@@ -17,7 +17,8 @@ pub struct Entry<'a> {
 }
 
 impl<'a> Entry<'a> {
-    // Takes an entry off a reader, after the stamp `last`.
+    // Takes an entry off a reader, after the stamp `last`. In line for `Entries::next`.
+    #[inline(always)]
     pub fn read(reader: &mut Reader<'a>, last: u64) -> Result<Entry<'a>, Fault>
         ensures is { Given view_entry (λ s bs. entry_at s last bs) reader.old reader.new result }
         ensures taken { IfOk result (λ e. Taken last reader.old.rest.now (view_entry e) reader.new.rest.now) }

@@ -26,10 +26,14 @@ pub(crate) fn holds(rt: &HostRuntime, line: &str) -> anyhow::Result<bool> {
     }
 }
 
+// The path of a file of a case.
+fn path(rt: &HostRuntime, name: &str, kind: &str) -> anyhow::Result<String> {
+    Ok(format!(in rt.alloc(); "{name}.{kind}")?)
+}
+
 // A file of a case.
 fn file(rt: &HostRuntime, name: &str, kind: &str) -> anyhow::Result<Vec<u8>> {
-    let path = format!(in rt.alloc(); "{name}.{kind}")?;
-    Ok(fs::read(rt, path.as_str())?)
+    Ok(fs::read(rt, path(rt, name, kind)?.as_str())?)
 }
 
 fn lists(rt: &HostRuntime, name: &str) -> anyhow::Result<bool> {
@@ -67,19 +71,29 @@ fn packs_again(heap: Global, bytes: &[u8]) -> anyhow::Result<bool> {
     Ok(true)
 }
 
-// The first number of a line, and what follows it.
-fn first_number(line: &str) -> anyhow::Result<(u64, &str)> {
-    let (word, rest) = line.split_once(' ').context("a line has too few words")?;
-    Ok((word.parse::<u64>()?, rest))
+// The first word of a line, and what follows it; `wanted` says what is missing where it has one word alone.
+fn first_word<'a>(line: &'a str, wanted: &'static str) -> anyhow::Result<(&'a str, &'a str)> {
+    line.split_once(' ').context(wanted)
+}
+
+// The three numbers that a line begins with: its words are counted before one of them is read.
+fn three_numbers(line: &str) -> anyhow::Result<(u64, u64, u64)> {
+    let wanted = "a line has too few words";
+    let (first, rest) = first_word(line, wanted)?;
+    let (second, rest) = first_word(rest, wanted)?;
+    let (third, _) = first_word(rest, wanted)?;
+    Ok((
+        first.parse::<u64>()?,
+        second.parse::<u64>()?,
+        third.parse::<u64>()?,
+    ))
 }
 
 // Whether the lines of this track among the first of `text` have the stamps and kinds of its entries.
 fn matches_lines(text: &str, records: usize, track: &Track) -> anyhow::Result<bool> {
     let mut entries = track.entries();
     for line in text.lines().take(records) {
-        let (wanted, rest) = first_number(line)?;
-        let (number, rest) = first_number(rest)?;
-        let (kind, _) = first_number(rest)?;
+        let (wanted, number, kind) = three_numbers(line)?;
         if number == u64::from(track.number) {
             let Some(Ok((stamp, entry))) = entries.next() else {
                 return Ok(false);
@@ -94,7 +108,7 @@ fn matches_lines(text: &str, records: usize, track: &Track) -> anyhow::Result<bo
 
 fn runs(rt: &HostRuntime, name: &str) -> anyhow::Result<bool> {
     let bytes = file(rt, name, "bundle")?;
-    let text = String::from_utf8(file(rt, name, "out")?)?;
+    let text = fs::read_to_string(rt, path(rt, name, "out")?.as_str())?;
     let Ok(bundle) = Bundle::read(&bytes) else {
         return Ok(false);
     };
@@ -117,7 +131,8 @@ fn same_records(bundle: &Bundle, text: &str) -> anyhow::Result<bool> {
 }
 
 fn packs(rt: &HostRuntime, rest: &str) -> anyhow::Result<bool> {
-    let (number, wanted) = first_number(rest)?;
+    let (number, wanted) = first_word(rest, "a number and its bytes")?;
+    let number = number.parse::<u64>()?;
     let mut out = [0xEE; 8];
     let Ok(len) = number::write(number, &mut out) else {
         return Ok(false);
@@ -137,16 +152,18 @@ fn is_unfit(rest: &str) -> anyhow::Result<bool> {
     Ok(refused == Err(Refusal::Unfit) && out == [0xEE; 8])
 }
 
+// A length above that of the slice is no case, whatever its number is.
 fn is_short(rest: &str) -> anyhow::Result<bool> {
-    let (number, rest) = first_number(rest)?;
-    let (len, needed) = first_number(rest)?;
-    let len = usize::try_from(len)?;
+    let wanted = "a number, a length and the bytes needed";
+    let (number, rest) = first_word(rest, wanted)?;
+    let (len, needed) = first_word(rest, wanted)?;
+    let len = len.parse::<usize>()?;
     let needed = needed.parse::<u128>()?;
     let mut out = [0xEE; 8];
     if len > out.len() {
         return Ok(false);
     }
-    let refused = number::write(number, &mut out[..len]);
+    let refused = number::write(number.parse::<u64>()?, &mut out[..len]);
     Ok(refused == Err(Refusal::Short { needed }) && out == [0xEE; 8])
 }
 

@@ -1,7 +1,7 @@
-use Rattle.std.proofs.Common.{◌≡◌, ℕ, ◌*◌, ◌/◌, ◌^◌, ◌<◌, get_or}
+use Rattle.std.proofs.Common.{◌≡◌, ℕ, ◌*◌, ◌/◌, ◌^◌, ◌<◌, length, get_or}
 use Rattle.number.specs.Numbers.{encode}
 use Rattle.number.proofs.put.Given as goal
 
--- the first i groups are written
-abbrev pub invariant-loop-i : goal.invariant-loop-i
-invariant-loop-i l = (l.left ≡ l.n / 2 ^ (l.i * 7)) × ((k : ℕ) → k < l.i → get_or l.out k 0 ≡ get_or (encode l.n) k 0)
+-- the groups before byte-index are written, and one at least is not
+abbrev pub invariant-loop-byte : goal.invariant-loop-byte
+invariant-loop-byte l = (l.left ≡ l.n / 2 ^ (l.byte-index * 7)) × (l.byte-index < length (encode l.n)) × ((k : ℕ) → k < l.byte-index → get_or l.out k 0 ≡ get_or (encode l.n) k 0)
