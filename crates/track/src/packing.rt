@@ -32,7 +32,8 @@ fn packed_len_all(ns: &[u64]) -> Option<usize>
 
 impl Record<'_> {
     // How many bytes a record takes, or none where it may not be packed: that needs a known kind,
-    // numbers below 2^42 and a name within its limit.
+    // numbers below 2^42 and a name within its limit. Inlined, so that its numbers are not copied.
+    #[inline(always)]
     fn packed_len(&self) -> Option<usize>
         ensures is { Needs (Fits (view self.now)) (record_bytes (view self.now)) result }
         ensures bound { IfSome result (λ k. k ≤ 60024) }
@@ -40,11 +41,12 @@ impl Record<'_> {
         if let Kind::Unknown(_) = self.kind() {
             return None;
         }
+        let numbers = packed_len_all(&self.numbers())?;
         let text = self.text();
         if text.len() > NAME_LIMIT {
             return None;
         }
-        Some(packed_len_all(&self.numbers())? + text.len())
+        Some(numbers + text.len())
     }
 }
 
