@@ -97,15 +97,12 @@ impl fmt::Display for Name<'_> {
     fn fmt<W: fmt::Write>(&self, f: &mut fmt::Formatter<W>) -> fmt::Result {
         f.write_str(" \"")?;
         let mut text = [0; 4 * PIECE];
-        let mut rest = self.0;
-        while !rest.is_empty() {
-            let (piece, others) = rest.split_at(rest.len().min(PIECE));
+        for piece in self.0.chunks(PIECE) {
             let len = show(piece, &mut text);
             let Ok(shown) = str::from_utf8(&text[..len]) else {
                 unreachable()
             };
             f.write_str(shown)?;
-            rest = others;
         }
         f.write_str("\"")
     }
